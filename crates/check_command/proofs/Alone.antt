@@ -59,15 +59,15 @@ pub record Says (closed : List ClosedShard) (logs : List Log) (audit : Audit) : 
   pub broken : (log : Log) → logs ≡ log ∷ [] → audit.broken ≡ log.broken
 
 module _
-    (stands : (plan : Plan) (at register : ℕ) (claim : ClaimModel) (journal : List Entry) → IsLegalJournal plan at journal → slice_get plan.claims register ≡ Some claim
+    (present : (plan : Plan) (at register : ℕ) (claim : ClaimModel) (journal : List Entry) → IsLegalJournal plan at journal → slice_get plan.claims register ≡ Some claim
     → left_by journal register claim ≡ standing (unedited claim) (edits_of register journal))
     (reply_is : (claim : ClaimModel) (ops : List Op) (edit : Edit) → reply_to claim (map bare ops) (bare_edit edit) ≡ reply_to claim ops edit)
     (stood : (claim : ClaimModel) (edits : List Edit) → bare_held (standing (unedited claim) (map bare_edit edits)) ≡ bare_held (standing (unedited claim) edits))
     (alike : (claim : ClaimModel) (edits others : List Edit) → map bare_edit edits ≡ map bare_edit others
     → let one = standing (unedited claim) edits in let other = standing (unedited claim) others in
     (one.claim ≡ other.claim) × (Holds one.claim one.ops ↔ Holds other.claim other.ops) × (length one.ops ≡ length other.ops)) where
-  stands_alone : (journal : List Entry) → IsLegalJournal alone_plan 0 journal → left_by journal 0 alone_claim ≡ standing (unedited alone_claim) (edits_of 0 journal)
-  stands_alone journal legal = stands alone_plan 0 0 alone_claim journal legal refl
+  present_alone : (journal : List Entry) → IsLegalJournal alone_plan 0 journal → left_by journal 0 alone_claim ≡ standing (unedited alone_claim) (edits_of 0 journal)
+  present_alone journal legal = present alone_plan 0 0 alone_claim journal legal refl
 
   audited_log : (trace : List ℕ) (passes : List PassModel) (closed : List ClosedShard) (log : Log) (audit : Audit) → IsClosed alone_plan passes closed → IsTraced alone_plan alone_tower Index closed 0 trace log
       → Says closed (log ∷ []) audit → IsAuditOf trace audit
@@ -76,12 +76,12 @@ module _
       let many : length closed ≡ 1 = finished.many in
       let settled : IsSettledJournal alone_plan passes 0 journal = finished.finished 0 (omega arith) in
       let runs : Runs [] [] journal traced.doings =
-      runs_alone stands_alone reply_is (stood alone_claim) journal traced.doings settled.of_shard.legal (of_one_feeder passes closed finished) (traced.entries 0 (omega arith)) in
+      runs_alone present_alone reply_is (stood alone_claim) journal traced.doings settled.of_shard.legal (of_one_feeder passes closed finished) (traced.entries 0 (omega arith)) in
       let steps : map taken_of traced.doings ≡ steps_of 0 traced.items = traced.done.for_steps in
       let held : RegisterState = left_by journal 0 alone_claim in
       let edited : RegisterState = standing (unedited alone_claim) (edits_of 0 journal) in
       let told : RegisterState = standing_after (map taken_of traced.doings) in
-      let held_is : held ≡ edited = stands_alone journal settled.of_shard.legal in
+      let held_is : held ≡ edited = present_alone journal settled.of_shard.legal in
       let book : book_of closed 0 ≡ Some held = finished.books 0 in
       let same = alike alone_claim (edits_of 0 journal) (edits_among 0 (map taken_of traced.doings)) runs.edits in
       let refused_is : audit.refused ≡ list_any is_refused_line (lines_from 0 traced.doings) = says.refused log refl ∙ ap (list_any is_refused_line) traced.done.noted in (

@@ -126,7 +126,7 @@ pushed before front entry register edit number reply edits one =
     ∙ ap (map bare_edit) (sym (edits_more before (taken_of (entered register edit number reply)) edit (edit_here register edit one.own')))
 
 module _
-    (stands : (journal : List Entry) → IsLegalJournal alone_plan 0 journal → left_by journal 0 alone_claim ≡ standing (unedited alone_claim) (edits_of 0 journal))
+    (present : (journal : List Entry) → IsLegalJournal alone_plan 0 journal → left_by journal 0 alone_claim ≡ standing (unedited alone_claim) (edits_of 0 journal))
     (reply_is : (claim : ClaimModel) (ops : List Op) (edit : Edit) → reply_to claim (map bare ops) (bare_edit edit) ≡ reply_to claim ops edit)
     (stood : (edits : List Edit) → bare_held (standing (unedited alone_claim) (map bare_edit edits)) ≡ bare_held (standing (unedited alone_claim) edits)) where
   replied_entry : (front : List Entry) (entry : Entry) (rest : List Entry) → IsLegalJournal alone_plan 0 (front ++ entry ∷ rest)
@@ -137,7 +137,7 @@ module _
       let here : IsReply (left_by front entry.register.0 alone_claim) entry.edit entry.reply = subst (λ (c : ClaimModel). IsReply (left_by front entry.register.0 c) entry.edit entry.reply) known.1 is.reply in
       let zero_here : IsReply (left_by front 0 alone_claim) entry.edit entry.reply = subst (λ (n : ℕ). IsReply (left_by front n alone_claim) entry.edit entry.reply) known.0 here in
       refusal_of (left_by front 0 alone_claim) entry.edit entry.reply zero_here
-      ∙ ap (λ (held : RegisterState). is_some (reply_after held entry.edit)) (stands front (front_of (IsAnswered alone_plan 0) [] front (entry ∷ rest) legal))
+      ∙ ap (λ (held : RegisterState). is_some (reply_after held entry.edit)) (present front (front_of (IsAnswered alone_plan 0) [] front (entry ∷ rest) legal))
 
   entering : (before : List StepResult) (front : List Entry) (entry : Entry) (journal : List Entry) (register : RegId) (edit : Edit) (number : ℕ) (reply : Reply) (doings : List Doing)
       → IsLegalJournal alone_plan 0 (front ++ entry ∷ journal) → map bare_edit (edits_of 0 front) ≡ map bare_edit (edits_among 0 before) → IsOne entry register edit reply

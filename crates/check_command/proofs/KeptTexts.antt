@@ -13,9 +13,6 @@ pub record AreTextsOf (logs : List Log) (kept : List Kept) (texts : List (List �
   pub many : length texts ≡ length kept
   pub each : (trace : ℕ) (one : Kept) (log : Log) (text : List ℕ) → slice_get kept trace ≡ Some one → slice_get logs trace ≡ Some log → slice_get texts trace ≡ Some text → IsTextOf log one text
 
-pub none_yet : (logs : List Log) → AreTextsOf logs [] []
-none_yet logs = record { many = refl; each = λ trace one log text there. absurd cc }
-
 -- one more text
 pub one_more : (logs : List Log) (kept : List Kept) (texts : List (List ℕ)) (one : Kept) (text : List ℕ) → AreTextsOf logs kept texts → ((log : Log) → slice_get logs (length texts) ≡ Some log → IsTextOf log one text)
     → AreTextsOf logs (kept ++ one ∷ []) (texts ++ text ∷ [])

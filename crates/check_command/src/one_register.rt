@@ -15,7 +15,7 @@ use intervals::laws::texts_decide_nothing;
 use intervals::{Kind, RegId};
 use logs::{Broken, Run};
 use phrases::push_register;
-use shards::laws::what_stands_is_after_all_edits;
+use shards::laws::what_is_present_after_all_edits;
 use std::alloc::{AllocError, Global};
 use std::io::{Read, Write};
 use std::mem::forget;
@@ -63,7 +63,7 @@ fn audit_trace<'a, A: AllocGlobal + Threads + Wait + Sync, S: Read + Drop + Send
     ensures audit { IfOk result (IsAudit (S.remaining reader)) }
     ensures quiet { IfErr result (λ fault. fault ≢ CommandFault.Unwritable) }
 {
-    what_stands_is_after_all_edits();
+    what_is_present_after_all_edits();
     texts_decide_nothing();
     let alloc = rt.alloc();
     let Some(tower) = the_tower(alloc) else {

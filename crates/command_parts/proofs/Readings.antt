@@ -42,10 +42,6 @@ open_more files later names lefts known left i d within stays opened so_far held
     let at : later (get_or names i d).now ≡ Some (get_or known i []) = ap (λ (f : List ℕ → Option (List ℕ)). f (get_or names i d).now) stays ∙ held_at files names known i d within held in
     rw (so_far held, is_known _ left _ at opened) (sym (map_more (λ text. Some text) known i [] inside))
 
--- all files that were opened
-pub all_opened : (files : List ℕ → Option (List ℕ)) (names : List (Bor (List ℕ))) (known : List (List ℕ)) → AreHeld files (map (λ name. name.now) names) known → take (length names) known ≡ known
-all_opened files names known held = subst (λ (n : ℕ). take n known ≡ known) (as_many files names known held) (take_all (length known) known (omega arith))
-
 -- files that are unchanged hold what they held
 pub held_later : (files later : List ℕ → Option (List ℕ)) (names others : List (Bor (List ℕ))) (known : List (List ℕ)) → later ≡ files → others ≡ names → AreHeld files (map (λ name. name.now) names) known → AreHeld later (map (λ name. name.now) others) known
 held_later files later names others known stays same held = rw (stays, same) held

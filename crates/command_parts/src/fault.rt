@@ -1,7 +1,8 @@
 //! Why a run of the program broke off, and what is printed of it.
 
-ghost use Rattle.std.specs.Prelude.{◌≡◌, ◌≢◌, ◌∷◌, ◌++◌, [], Some, IfOk, IfSome, codes, string_bytes};
+ghost use Rattle.std.specs.Prelude.{◌≡◌, ◌≢◌, ◌∷◌, ◌++◌, [], Some, IfOk, IfSome, OnOk, codes, string_bytes};
 ghost use Rattle.tower_file.specs.Tower.{tower_fault_code};
+ghost use Rattle.phrases.specs.Names.{printed};
 ghost use Rattle.command_parts.specs.Complaint.{broken_off, complaint_of, unread};
 
 use feeders::{InputFault, RunFault};
@@ -105,33 +106,25 @@ fn complaint(alloc: Global, fault: &CommandFault<'_>) -> Result<String, AllocErr
     match fault {
         CommandFault::Usage(error) => write!(text, "{error}")?,
         CommandFault::TooManyTraces => text.push_str("regaudit: too many traces\n")?,
-        CommandFault::Unreadable(name) => {
-            text.push_str("regaudit: cannot read ")?;
-            push_printed(&mut text, name.as_bytes())?;
-            text.push_str("\n")?;
-        }
+        CommandFault::Unreadable(name) => push_line(&mut text, "regaudit: cannot read ", name, "")?,
         CommandFault::Tower(code) => {
             text.push_str("regaudit: tower ")?;
             text.push_str(code)?;
             text.push_str("\n")?;
         }
-        CommandFault::NoRegister(name) => {
-            text.push_str("regaudit: no register ")?;
-            push_printed(&mut text, name.as_bytes())?;
-            text.push_str("\n")?;
-        }
-        CommandFault::NoCode(name) => {
-            text.push_str("regaudit: no code ")?;
-            push_printed(&mut text, name.as_bytes())?;
-            text.push_str("; regaudit explain lists them")?;
-            text.push_str("\n")?;
-        }
-        CommandFault::NoNote(name) => {
-            text.push_str("regaudit: '")?;
-            push_printed(&mut text, name.as_bytes())?;
-            text.push_str("' is no note; --deny takes L1 to L8")?;
-            text.push_str("\n")?;
-        }
+        CommandFault::NoRegister(name) => push_line(&mut text, "regaudit: no register ", name, "")?,
+        CommandFault::NoCode(name) => push_line(
+            &mut text,
+            "regaudit: no code ",
+            name,
+            "; regaudit explain lists them",
+        )?,
+        CommandFault::NoNote(name) => push_line(
+            &mut text,
+            "regaudit: '",
+            name,
+            "' is no note; --deny takes L1 to L8",
+        )?,
         CommandFault::Shard(fault) => {
             text.push_str("regaudit: ")?;
             text.push_str(fault.code())?;
@@ -144,4 +137,14 @@ fn complaint(alloc: Global, fault: &CommandFault<'_>) -> Result<String, AllocErr
         }
     }
     Ok(text)
+}
+
+/// Adds a line with a name in it, between these words.
+fn push_line(text: &mut String, before: &str, name: &str, after: &str) -> Result<(), AllocError>
+    ensures { OnOk result (string_bytes text.new ≡ string_bytes text.old ++ before.now ++ printed name.now ++ after.now ++ 10 ∷ []) }
+{
+    text.push_str(before)?;
+    push_printed(text, name.as_bytes())?;
+    text.push_str(after)?;
+    text.push_str("\n")
 }

@@ -99,12 +99,18 @@ pub fn run_words<
     ensures whole { IfErr result (λ fault. fault ≢ CommandFault.Unwritable → IfSome (asked (map S.text words.entry.now)) (λ command. WritesWhole command (F.held files.old) (W.contents out.old) (W.contents out.new))) }
 {
     match read_words(rt.alloc(), words) {
-        Ok(command) => carry_out(rt, command, files, input, out),
+        Ok(command) => run_command(rt, command, files, input, out),
         Err(error) => Err(CommandFault::of_words(error)),
     }
 }
 
-fn carry_out<'a, A: AllocGlobal + Threads + Wait + Sync, F: Files, R: Read + Send, W: Write + Send>(
+fn run_command<
+    'a,
+    A: AllocGlobal + Threads + Wait + Sync,
+    F: Files,
+    R: Read + Send,
+    W: Write + Send,
+>(
     rt: &A,
     command: Command<'a>,
     files: &mut F,

@@ -18,7 +18,7 @@ use Rattle.edn_reader.specs.Pairs.{in_turn, HasPairs}
 use Rattle.edn_reader.specs.Flat.{IsWordAt, IsValueAt, piece_at, WordsTo, IsVectorFrom, IsCoreAt, kind_with, HasRead, IsBraceAt, BeginsWithElement}
 use Rattle.edn_reader.proofs.Lexing.{white_class, plain_class}
 use Rattle.edn_reader.proofs.Places.{Follows, Replaced, replaced_then, follows_before, follows_same, cancel_end, moved_token, moved_gap, moved_element, moved_elements}
-use Rattle.edn_reader.proofs.Prefixes.{replaced_behind}
+use Rattle.edn_reader.proofs.Prefixes.{replaced_after}
 use Rattle.edn_reader.proofs.Steps.{gap_then, elements_more}
 use Rattle.edn_reader.proofs.Stretches.{along, drop_here, stretch_here}
 
@@ -47,8 +47,8 @@ run_to bytes base at end place =
     (subst (λ (xs : List ℕ). IsStretch is_run (base + at) (drop at bytes) (base + at + size) xs) rest (stretch_here is_run (base + at) (drop at bytes)))
 
 -- a run after its first byte
-run_behind : (bytes : List ℕ) (base at end : ℕ) → end ≡ at + 1 + stretch is_run (drop (at + 1) bytes) → IsStretch is_run (suc (base + at)) (drop (at + 1) bytes) (base + end) (drop end bytes)
-run_behind bytes base at end place =
+run_after : (bytes : List ℕ) (base at end : ℕ) → end ≡ at + 1 + stretch is_run (drop (at + 1) bytes) → IsStretch is_run (suc (base + at)) (drop (at + 1) bytes) (base + end) (drop end bytes)
+run_after bytes base at end place =
     let from : base + (at + 1) ≡ suc (base + at) = omega arith in
     subst (λ (p : ℕ). IsStretch is_run p (drop (at + 1) bytes) (base + end) (drop end bytes)) from (run_to bytes base (at + 1) end place)
 
@@ -61,7 +61,7 @@ pub word_at : (bytes : List ℕ) (at end : ℕ) → at < length bytes → is_pla
 word_at bytes at end lt plain place le other = (
   omega (arith, place),
   omega (arith, le, other),
-  λ base. token_here bytes base at lt (run (plain_class (class_of (get_or bytes at 0)) plain) (run_behind bytes base at end place)),
+  λ base. token_here bytes base at lt (run (plain_class (class_of (get_or bytes at 0)) plain) (run_after bytes base at end place)),
 )
 
 pub value_of_word : (bytes : List ℕ) (at end : ℕ) → IsWordAt bytes at end → IsValueAt bytes at kinds.Atom end
@@ -131,11 +131,11 @@ vector_element bytes base at place end room lt opens is within closes words =
     let core : Core = record { kind = kinds.Vector; start = base + at } in
     let inner : base + (at + 1) ≡ suc (base + at) = omega arith in
     let after : suc (base + place) ≡ base + end = omega (arith, is) in
-    let behind : place + 1 ≡ end = omega (arith, is) in
+    let following : place + 1 ≡ end = omega (arith, is) in
     let elements : IsElements room (suc (base + at)) (drop (at + 1) bytes) words.words words.last words.rest =
     subst (λ (p : ℕ). IsElements room p (drop (at + 1) bytes) words.words words.last words.rest) inner (words.elements room) in
     subst (λ (q : ℕ). IsElementAt (suc room) kinds.Vector core (base + at) (drop at bytes) q (drop end bytes)) after
-    (subst (λ (n : ℕ). IsElementAt (suc room) kinds.Vector core (base + at) (drop at bytes) (suc (base + place)) (drop n bytes)) behind
+    (subst (λ (n : ℕ). IsElementAt (suc room) kinds.Vector core (base + at) (drop at bytes) (suc (base + place)) (drop n bytes)) following
     (bracketed (opens_at {bracket = Square} bytes base at lt (opens_square (get_or bytes at 0) opens)) elements (words.gap room)
     (closes_at {bracket = Square} bytes base place within (closes_square (get_or bytes place 0) closes)) refl refl))
 
@@ -164,11 +164,11 @@ tag_named : (bytes : List ℕ) (at : ℕ) → at < length bytes → is_plain (ge
 tag_named bytes at lt plain other =
     subst IsTag (sym (drop_here bytes at lt)) (plain_no_hash (get_or bytes at 0) (plain_class (class_of (get_or bytes at 0)) plain) other)
 
-pub core_behind : (bytes : List ℕ) (start end core : ℕ) → start + 1 < length bytes → get_or bytes start 0 ≡ 35 → is_plain (get_or bytes (start + 1) 0) ≡ true → get_or bytes (start + 1) 0 ≢ 95
+pub core_following : (bytes : List ℕ) (start end core : ℕ) → start + 1 < length bytes → get_or bytes start 0 ≡ 35 → is_plain (get_or bytes (start + 1) 0) ≡ true → get_or bytes (start + 1) 0 ≢ 95
     → end ≡ start + 1 + stretch is_run (drop (start + 1) bytes) → core ≡ end + stretch is_white (drop end bytes) → IsCoreAt bytes start core
-core_behind bytes start end core lt hash plain other ends white_ends = inr (record {
+core_following bytes start end core lt hash plain other ends white_ends = inr (record {
   name = end;
-  token = λ base. token_here bytes base start (omega (arith, lt)) (tag (hash_class (get_or bytes start 0) hash) (tag_named bytes (start + 1) lt plain other) (run_behind bytes base start end ends));
+  token = λ base. token_here bytes base start (omega (arith, lt)) (tag (hash_class (get_or bytes start 0) hash) (tag_named bytes (start + 1) lt plain other) (run_after bytes base start end ends));
   gap = λ base room. gap_white bytes base room end core white_ends;
   before = omega (arith, ends, white_ends);
 })
@@ -180,17 +180,17 @@ pub map_first : (map : FlatMap) → map.base + length map.bytes.now < 2 ^ 64 →
 map_first map fits start core lt opens at =
     let bytes = map.bytes.now in
     let zero : map.base + 0 ≡ map.base = omega arith in
-    let behind : map.core + 1 ≡ suc map.core = omega arith in
+    let following : map.core + 1 ≡ suc map.core = omega arith in
     let inner : suc (map.base + map.core) ≡ map.base + map.at = omega (arith, at) in
     record {
       fits = fits;
       gap = λ room. subst (λ (p : ℕ). IsGap room p bytes (map.base + map.start) (drop map.start bytes)) zero (gap_white bytes map.base room 0 map.start start);
       core = core;
-      bracket = subst (λ (n : ℕ). IsToken (Opens openers.Map) (map.base + map.core) (drop map.core bytes) (suc (map.base + map.core)) (drop n bytes)) behind
+      bracket = subst (λ (n : ℕ). IsToken (Opens openers.Map) (map.base + map.core) (drop map.core bytes) (suc (map.base + map.core)) (drop n bytes)) following
           (opens_at {bracket = Curly} bytes map.base map.core lt (opens_curly (get_or bytes map.core 0) opens));
       elements = λ room. subst (λ (q : ℕ). IsElements (suc room) (suc (map.base + map.core)) (drop (suc map.core) bytes) [] q (drop map.at bytes)) inner
-          (subst (λ (n : ℕ). IsElements (suc room) (suc (map.base + map.core)) (drop (suc map.core) bytes) [] (suc (map.base + map.core)) (drop n bytes)) (sym (at ∙ behind)) none);
-      behind = omega (arith, at);
+          (subst (λ (n : ℕ). IsElements (suc room) (suc (map.base + map.core)) (drop (suc map.core) bytes) [] (suc (map.base + map.core)) (drop n bytes)) (sym (at ∙ following)) none);
+      following = omega (arith, at);
       within = omega (arith, at, lt);
     }
 
@@ -225,27 +225,27 @@ map_next map pairs key_at key_end value_at value_end kind read key_place key val
           (elements_more second
           (elements_more first (read.elements room) (gap_white bytes base (suc room) map.at key_at key_place) (leaf (key.2 base)) (split_at bytes key_at key_end (omega (arith, key.0))))
           (gap_white bytes base (suc room) key_end value_at value_place) (value.2 base room) (split_at bytes value_at value_end (omega (arith, value.0))));
-      behind = omega (arith, read.behind, key_place, key.0, value_place, value.0);
+      following = omega (arith, read.following, key_place, key.0, value_place, value.0);
       within = value.1;
     }
 
 -- ---- a map that ends
 
 -- the map up to its brace, with other bytes after that
-record Closed (map : FlatMap) (pairs : List (ElementModel × ElementModel)) (brace room : ℕ) (behind : List ℕ) : Type 0 where
+record Closed (map : FlatMap) (pairs : List (ElementModel × ElementModel)) (brace room : ℕ) (following : List ℕ) : Type 0 where
   bytes : List ℕ
   left : List ℕ
   beyond : List ℕ
   last : ℕ
   opens : IsToken (Opens openers.Map) (map.base + map.core) bytes (suc (map.base + map.core)) left
   elements : IsElements (suc room) (suc (map.base + map.core)) left (in_turn pairs) (map.base + map.at) beyond
-  gap : IsGap (suc room) (map.base + map.at) beyond (map.base + brace) (last ∷ behind)
+  gap : IsGap (suc room) (map.base + map.at) beyond (map.base + brace) (last ∷ following)
   closes : class_of last ≡ classes.Closes Curly
-  place : Replaced (map.base + map.core) (drop map.core map.bytes.now) (suc (map.base + brace)) (drop (suc brace) map.bytes.now) bytes behind
+  place : Replaced (map.base + map.core) (drop map.core map.bytes.now) (suc (map.base + brace)) (drop (suc brace) map.bytes.now) bytes following
   begins : Follows (drop map.core map.bytes.now) bytes
 
-closed : (map : FlatMap) (pairs : List (ElementModel × ElementModel)) (brace room : ℕ) (behind : List ℕ) → HasRead map pairs → IsBraceAt map brace → Closed map pairs brace room behind
-closed map pairs brace room behind read (low, lt, is, gap) =
+closed : (map : FlatMap) (pairs : List (ElementModel × ElementModel)) (brace room : ℕ) (following : List ℕ) → HasRead map pairs → IsBraceAt map brace → Closed map pairs brace room following
+closed map pairs brace room following read (low, lt, is, gap) =
     let bytes = map.bytes.now in
     let last = get_or bytes brace 0 in
     let here : drop brace bytes ≡ last ∷ drop (brace + 1) bytes = drop_here bytes brace lt in
@@ -254,14 +254,14 @@ closed map pairs brace room behind read (low, lt, is, gap) =
     subst (λ (xs : List ℕ). IsGap (suc room) (map.base + map.at) (drop map.at bytes) (map.base + brace) xs) here (gap (suc room)) in
     let class : class_of last ≡ classes.Closes Curly = closes_curly last is in
     let token : IsToken (Closes Curly) (map.base + brace) (last ∷ drop (brace + 1) bytes) (suc (map.base + brace)) (drop (brace + 1) bytes) = close class in
-    let c = moved_token token behind tt in
-    let follows = follows_same last (drop (brace + 1) bytes) behind in
-    let g = moved_gap gap_here (last ∷ behind) follows in
+    let c = moved_token token following tt in
+    let follows = follows_same last (drop (brace + 1) bytes) following in
+    let g = moved_gap gap_here (last ∷ following) follows in
     let m = moved_elements (read.elements room) g.0 (follows_before g.2 follows) in
     let t = moved_token read.bracket m.0 (follows_before m.2 (follows_before g.2 follows)) in
-    let ends : Replaced (map.base + brace) (last ∷ drop (brace + 1) bytes) (suc (map.base + brace)) (drop (brace + 1) bytes) (last ∷ behind) behind =
+    let ends : Replaced (map.base + brace) (last ∷ drop (brace + 1) bytes) (suc (map.base + brace)) (drop (brace + 1) bytes) (last ∷ following) following =
     record { front = last ∷ []; here = refl; there = refl; place = omega arith } in
-    let all : Replaced (map.base + map.core) (drop map.core bytes) (suc (map.base + brace)) (drop (brace + 1) bytes) t.bytes behind = replaced_then t.place (replaced_then m.2 (replaced_then g.2 ends)) in
+    let all : Replaced (map.base + map.core) (drop map.core bytes) (suc (map.base + brace)) (drop (brace + 1) bytes) t.bytes following = replaced_then t.place (replaced_then m.2 (replaced_then g.2 ends)) in
     record {
       bytes = t.bytes;
       left = m.0;
@@ -271,37 +271,37 @@ closed map pairs brace room behind read (low, lt, is, gap) =
       elements = m.1;
       gap = g.1;
       closes = class;
-      place = subst (λ (n : ℕ). Replaced (map.base + map.core) (drop map.core bytes) (suc (map.base + brace)) (drop n bytes) t.bytes behind) after all;
+      place = subst (λ (n : ℕ). Replaced (map.base + map.core) (drop map.core bytes) (suc (map.base + brace)) (drop n bytes) t.bytes following) after all;
       begins = t.begins;
     }
 
-element_closed : (map : FlatMap) (pairs : List (ElementModel × ElementModel)) (brace room : ℕ) (behind : List ℕ) (c : Closed map pairs brace room behind)
-    → IsElementAt (suc (suc room)) kinds.Map (record { kind = kinds.Map; start = map.base + map.core }) (map.base + map.core) c.bytes (suc (map.base + brace)) behind
-element_closed map pairs brace room behind c = bracketed c.opens c.elements c.gap (close c.closes) refl (in_turn-even pairs)
+element_closed : (map : FlatMap) (pairs : List (ElementModel × ElementModel)) (brace room : ℕ) (following : List ℕ) (c : Closed map pairs brace room following)
+    → IsElementAt (suc (suc room)) kinds.Map (record { kind = kinds.Map; start = map.base + map.core }) (map.base + map.core) c.bytes (suc (map.base + brace)) following
+element_closed map pairs brace room following c = bracketed c.opens c.elements c.gap (close c.closes) refl (in_turn-even pairs)
 
 -- the map with its tag, if it has one
-record Whole (map : FlatMap) (brace : ℕ) (behind : List ℕ) : Type 0 where
+record Whole (map : FlatMap) (brace : ℕ) (following : List ℕ) : Type 0 where
   bytes : List ℕ
-  element : IsElementAt 64 (kind_with map.start map.core) (record { kind = kinds.Map; start = map.base + map.core }) (map.base + map.start) bytes (suc (map.base + brace)) behind
-  place : Replaced (map.base + map.start) (drop map.start map.bytes.now) (suc (map.base + brace)) (drop (suc brace) map.bytes.now) bytes behind
+  element : IsElementAt 64 (kind_with map.start map.core) (record { kind = kinds.Map; start = map.base + map.core }) (map.base + map.start) bytes (suc (map.base + brace)) following
+  place : Replaced (map.base + map.start) (drop map.start map.bytes.now) (suc (map.base + brace)) (drop (suc brace) map.bytes.now) bytes following
   begins : Follows (drop map.start map.bytes.now) bytes
 
-whole_by : (map : FlatMap) (pairs : List (ElementModel × ElementModel)) (brace : ℕ) (behind : List ℕ) → HasRead map pairs → IsBraceAt map brace → IsCoreAt map.bytes.now map.start map.core → Whole map brace behind
-whole_by map pairs brace behind read closes (inl same) =
-    let c = closed map pairs brace 62 behind read closes in
+whole_by : (map : FlatMap) (pairs : List (ElementModel × ElementModel)) (brace : ℕ) (following : List ℕ) → HasRead map pairs → IsBraceAt map brace → IsCoreAt map.bytes.now map.start map.core → Whole map brace following
+whole_by map pairs brace following read closes (inl same) =
+    let c = closed map pairs brace 62 following read closes in
     let core : Core = record { kind = kinds.Map; start = map.base + map.core } in
     let test : eqb map.core map.start ≡ true = grind (arith, nat_tests) in
     let kind : kinds.Map ≡ kind_with map.start map.core = ap (λ (t : Bool). cond t kinds.Map kinds.Tagged) (sym test) in
-    let element : IsElementAt 64 (kind_with map.start map.core) core (map.base + map.core) c.bytes (suc (map.base + brace)) behind =
-    subst (λ (k : ElementKind). IsElementAt 64 k core (map.base + map.core) c.bytes (suc (map.base + brace)) behind) kind (element_closed map pairs brace 62 behind c) in
+    let element : IsElementAt 64 (kind_with map.start map.core) core (map.base + map.core) c.bytes (suc (map.base + brace)) following =
+    subst (λ (k : ElementKind). IsElementAt 64 k core (map.base + map.core) c.bytes (suc (map.base + brace)) following) kind (element_closed map pairs brace 62 following c) in
     record {
       bytes = c.bytes;
-      element = subst (λ (n : ℕ). IsElementAt 64 (kind_with map.start map.core) core (map.base + n) c.bytes (suc (map.base + brace)) behind) (sym same) element;
-      place = subst (λ (n : ℕ). Replaced (map.base + n) (drop n map.bytes.now) (suc (map.base + brace)) (drop (suc brace) map.bytes.now) c.bytes behind) (sym same) c.place;
+      element = subst (λ (n : ℕ). IsElementAt 64 (kind_with map.start map.core) core (map.base + n) c.bytes (suc (map.base + brace)) following) (sym same) element;
+      place = subst (λ (n : ℕ). Replaced (map.base + n) (drop n map.bytes.now) (suc (map.base + brace)) (drop (suc brace) map.bytes.now) c.bytes following) (sym same) c.place;
       begins = subst (λ (n : ℕ). Follows (drop n map.bytes.now) c.bytes) (sym same) c.begins;
     }
-whole_by map pairs brace behind read closes (inr named) =
-    let c = closed map pairs brace 61 behind read closes in
+whole_by map pairs brace following read closes (inr named) =
+    let c = closed map pairs brace 61 following read closes in
     let core : Core = record { kind = kinds.Map; start = map.base + map.core } in
     let test : eqb map.core map.start ≡ false = let before = named.before in grind (arith, nat_tests) in
     let kind : kinds.Tagged ≡ kind_with map.start map.core = ap (λ (t : Bool). cond t kinds.Map kinds.Tagged) (sym test) in
@@ -309,7 +309,7 @@ whole_by map pairs brace behind read closes (inr named) =
     let t = moved_token (named.token map.base) g.0 (follows_before g.2 c.begins) in
     record {
       bytes = t.bytes;
-      element = subst (λ (k : ElementKind). IsElementAt 64 k core (map.base + map.start) t.bytes (suc (map.base + brace)) behind) kind (tagged t.token g.1 (element_closed map pairs brace 61 behind c));
+      element = subst (λ (k : ElementKind). IsElementAt 64 k core (map.base + map.start) t.bytes (suc (map.base + brace)) following) kind (tagged t.token g.1 (element_closed map pairs brace 61 following c));
       place = replaced_then t.place (replaced_then g.2 c.place);
       begins = t.begins;
     }
@@ -340,19 +340,19 @@ text_size : (map : FlatMap) (brace : ℕ) → map.start ≤ brace → brace < le
 text_size map brace low lt = length-take-le (suc brace - map.start) (drop map.start map.bytes.now) (omega (arith, low, lt, length-drop map.start map.bytes.now))
 
 brace_high : (map : FlatMap) (pairs : List (ElementModel × ElementModel)) (brace : ℕ) → HasRead map pairs → IsBraceAt map brace → map.start ≤ brace
-brace_high map pairs brace read closes = omega (arith, core_low map.bytes.now map.start map.core read.core, read.behind, closes.0)
+brace_high map pairs brace read closes = omega (arith, core_low map.bytes.now map.start map.core read.core, read.following, closes.0)
 
-first_behind : (map : FlatMap) (pairs : List (ElementModel × ElementModel)) (brace : ℕ) (behind : List ℕ) → HasRead map pairs → IsBraceAt map brace
-    → IsElements 64 map.base (map.bytes.now ++ behind) (map_piece map brace ∷ []) (suc (map.base + brace)) (drop (suc brace) map.bytes.now ++ behind)
-first_behind map pairs brace behind read closes =
+first_following : (map : FlatMap) (pairs : List (ElementModel × ElementModel)) (brace : ℕ) (following : List ℕ) → HasRead map pairs → IsBraceAt map brace
+    → IsElements 64 map.base (map.bytes.now ++ following) (map_piece map brace ∷ []) (suc (map.base + brace)) (drop (suc brace) map.bytes.now ++ following)
+first_following map pairs brace following read closes =
     let bytes = map.bytes.now in
     let rest = drop (suc brace) bytes in
-    let w = whole_by map pairs brace (rest ++ behind) read closes read.core in
+    let w = whole_by map pairs brace (rest ++ following) read closes read.core in
     let g = moved_gap (read.gap 64) w.bytes w.begins in
     let front = front_between bytes map.start (suc brace) (omega (arith, brace_high map pairs brace read closes)) w.place in
-    let text : w.bytes ≡ (map_piece map brace).text ++ (rest ++ behind) = w.place.there ∙ ap (λ (xs : List ℕ). xs ++ (rest ++ behind)) front in
-    let all : g.0 ≡ bytes ++ behind = replaced_behind behind (replaced_then g.2 w.place) in
-    subst (λ (xs : List ℕ). IsElements 64 map.base xs (map_piece map brace ∷ []) (suc (map.base + brace)) (rest ++ behind)) all (next g.1 w.element text none)
+    let text : w.bytes ≡ (map_piece map brace).text ++ (rest ++ following) = w.place.there ∙ ap (λ (xs : List ℕ). xs ++ (rest ++ following)) front in
+    let all : g.0 ≡ bytes ++ following = replaced_after following (replaced_then g.2 w.place) in
+    subst (λ (xs : List ℕ). IsElements 64 map.base xs (map_piece map brace ∷ []) (suc (map.base + brace)) (rest ++ following)) all (next g.1 w.element text none)
 
 pub map_is_first : (map : FlatMap) (pairs : List (ElementModel × ElementModel)) (brace : ℕ) → HasRead map pairs → IsBraceAt map brace → BeginsWithElement map.bytes.now map.base (map_piece map brace)
 map_is_first map pairs brace read closes =
@@ -368,9 +368,9 @@ map_is_first map pairs brace read closes =
       sym (drop-take map.start (suc brace - map.start) bytes)
           ∙ ap (λ (n : ℕ). drop n (take (map.start + (suc brace - map.start)) bytes)) there
           ∙ ap (λ (n : ℕ). drop (map.base + map.start - map.base) (take n bytes)) upto,
-      λ behind.
-          subst (λ (q : ℕ). IsElements 64 map.base (bytes ++ behind) (map_piece map brace ∷ []) q (drop (map.base + map.start + length (map_piece map brace).text - map.base) bytes ++ behind)) end
-          (subst (λ (n : ℕ). IsElements 64 map.base (bytes ++ behind) (map_piece map brace ∷ []) (suc (map.base + brace)) (drop n bytes ++ behind)) used (first_behind map pairs brace behind read closes)),
+      λ following.
+          subst (λ (q : ℕ). IsElements 64 map.base (bytes ++ following) (map_piece map brace ∷ []) q (drop (map.base + map.start + length (map_piece map brace).text - map.base) bytes ++ following)) end
+          (subst (λ (n : ℕ). IsElements 64 map.base (bytes ++ following) (map_piece map brace ∷ []) (suc (map.base + brace)) (drop n bytes ++ following)) used (first_following map pairs brace following read closes)),
     )
 
 pub map_is_element : (map : FlatMap) (pairs : List (ElementModel × ElementModel)) (brace : ℕ) → HasRead map pairs → IsBraceAt map brace → IsElement (map_piece map brace)
@@ -385,9 +385,9 @@ map_has_pairs map pairs brace read closes =
     let bytes = map.bytes.now in
     let c = closed map pairs brace 62 [] read closes in
     let low = core_low bytes map.start map.core read.core in
-    let front = front_between bytes map.core (suc brace) (omega (arith, read.behind, closes.0)) c.place in
+    let front = front_between bytes map.core (suc brace) (omega (arith, read.following, closes.0)) c.place in
     let ahead : map.base + map.core - (map.base + map.start) ≡ map.core - map.start = omega (arith, low) in
-    let sizes : suc brace - map.start ≡ map.core - map.start + (suc brace - map.core) = omega (arith, low, read.behind, closes.0) in
+    let sizes : suc brace - map.start ≡ map.core - map.start + (suc brace - map.core) = omega (arith, low, read.following, closes.0) in
     let there : map.start + (map.core - map.start) ≡ map.core = omega (arith, low) in
     let text : c.bytes ≡ (untagged (map_piece map brace)).text =
     c.place.there ∙ append-nil c.place.front ∙ front
@@ -405,7 +405,7 @@ map_has_pairs map pairs brace read closes =
         ends = map.base + map.at;
         beyond = c.beyond;
         begins = map.base + brace;
-        behind = c.last ∷ [];
+        following = c.last ∷ [];
         after = suc (map.base + brace);
         bracket = Curly;
         elements = c.elements;

@@ -14,11 +14,11 @@ use Rattle.edn_reader.specs.Grammar.{ElementModel, fits, waits, is_paired, kind_
 use Rattle.edn_reader.specs.Text.{within, waiting, StandsIn, StandsOpen, outermost, opened}
 use Rattle.edn_reader.specs.Token.{lexed}
 use Rattle.edn_reader.specs.Resuming.{resumed, last}
-use Rattle.edn_reader.specs.Taking.{Taken, on, ends, fails, with_one, is_tag, behind_tag, completed, plain_span, closed, taken, LeadsOn, stays, by_token}
+use Rattle.edn_reader.specs.Taking.{Taken, on, ends, fails, with_one, is_tag, after_tag, completed, plain_span, closed, taken, LeadsOn, stays, by_token}
 use Rattle.edn_reader.specs.Within.{outer, kept_token}
 use Rattle.edn_reader.proofs.Places.{gap_forward, token_forward, elements_forward}
 use Rattle.edn_reader.proofs.Reading.{StandsAt}
-use Rattle.edn_reader.proofs.Leading.{stands_led}
+use Rattle.edn_reader.proofs.Leading.{present_led}
 
 -- what is open began no later than a place, each no later than what opened in it
 abbrev pub Rising : List Open → ℕ → Type 0
@@ -29,9 +29,9 @@ pub inside_forward : {opener : Opener} {room p q : ℕ} {a b : List ℕ} {odd : 
 inside_forward (within w els gap) = omega (arith, elements_forward els, gap_forward gap)
 inside_forward (waiting w gap) = gap_forward gap
 
-pub rising_stands : {p : ℕ} {input rest : List ℕ} {pieces : List ElementModel} {opens : List Open} → StandsOpen input pieces opens p rest → Rising opens p
-rising_stands (outermost els gap) = tt
-rising_stands (opened s token room inside) = (omega (arith, token_forward token, inside_forward inside), rising_stands s)
+pub rising_present : {p : ℕ} {input rest : List ℕ} {pieces : List ElementModel} {opens : List Open} → StandsOpen input pieces opens p rest → Rising opens p
+rising_present (outermost els gap) = tt
+rising_present (opened s token room inside) = (omega (arith, token_forward token, inside_forward inside), rising_present s)
 
 pub outer_up : (opens : List Open) (p q : ℕ) → p ≤ q → outer opens p ≤ outer opens q
 outer_up [] p q le = le
@@ -61,8 +61,8 @@ unfolding completed
 completed_keeps [] span end le r = omega arith
 completed_keeps (item ∷ opens) span end le r =
     let low : item.place ≤ end = omega (arith, r.0, le) in
-    keeps_by (outer opens item.place) end (is_tag item.opener) (waits item.opener) (completed (behind_tag item span) opens) opens (with_one item ∷ opens)
-    (completed_keeps opens (behind_tag item span) end low r.1) (outer_up opens item.place end low) (omega arith)
+    keeps_by (outer opens item.place) end (is_tag item.opener) (waits item.opener) (completed (after_tag item span) opens) opens (with_one item ∷ opens)
+    (completed_keeps opens (after_tag item span) end low r.1) (outer_up opens item.place end low) (omega arith)
 
 closed_by : (keep end : ℕ) (w f o : Bool) (x : Taken) (a b c : EdnFault) → Keeps keep end x → Keeps keep end (cond w (fails a) (cond f (cond o (fails b) x) (fails c)))
 closed_by keep end true f o x a b c k = tt
@@ -104,7 +104,7 @@ led_keeps input pieces from end opens after s (by_token {at = at} {inner = inner
     omega (
       arith,
       led_keeps input pieces from at opens inner s led,
-      on_keeps (lexed (drop at input)).0 at (at + size) inner after (omega arith) (rising_stands (stands_led input pieces from at opens inner s led)) e,
+      on_keeps (lexed (drop at input)).0 at (at + size) inner after (omega arith) (rising_present (present_led input pieces from at opens inner s led)) e,
     )
 
 -- ---- after what has begun

@@ -11,7 +11,7 @@ use Rattle.edn_reader.specs.Splitting.{SplitterModel, IsBetweenElements, TakesOn
 use Rattle.edn_reader.specs.Taking.{piece_in, span_of}
 use Rattle.edn_reader.specs.Text.{StandsOpen, outermost, opened}
 use Rattle.edn_reader.specs.Within.{OneMore, ReadsPiece, kept}
-use Rattle.edn_reader.proofs.Ended.{elements_left, stands_left}
+use Rattle.edn_reader.proofs.Ended.{elements_left, present_left}
 use Rattle.edn_reader.proofs.Keeping.{token_high}
 use Rattle.edn_reader.proofs.Places.{core_within}
 use Rattle.edn_reader.proofs.Reading.{elements_within}
@@ -35,7 +35,7 @@ one_more {input = input} {pieces = pieces} found (outermost els gap) empty first
     let begins : StandsOpen input pieces [] found.start first.left = outermost els before in
     let all = elements_more found els before first.element first.whole in
     let text : take (end - found.start) (drop found.start input) ≡ found.text =
-    ap (take (end - found.start)) (sym (stands_left begins) ∙ first.whole) ∙ take_at found.text _ (end - found.start) (omega arith) in
+    ap (take (end - found.start)) (sym (present_left begins) ∙ first.whole) ∙ take_at found.text _ (end - found.start) (omega arith) in
     let same : found ≡ piece_in input (span_of found) =
     ap (λ (xs : List ℕ). record { kind = found.kind; start = found.start; text = xs; core = found.core }) (sym text) in
     let core = core_within first.element in (
@@ -45,15 +45,15 @@ one_more {input = input} {pieces = pieces} found (outermost els gap) empty first
       subst (λ (piece : ElementModel). IsElements 64 0 input (pieces ++ piece ∷ []) end (drop end input)) same
           (subst (λ (xs : List ℕ). IsElements 64 0 input (pieces ++ found ∷ []) end xs) (elements_left all) all),
     )
-one_more found (opened stands token room inside) empty first = absurd cc
+one_more found (opened present token room inside) empty first = absurd cc
 
 reads_known : (piece : List ℕ) (old : SplitterModel) (found : ElementModel) → IsBetweenElements old → BeginsWithElement piece old.taken found → ReadsPiece piece old.taken old.begun old.opens (Ok (Ended (span_of found))) old.opens
-reads_known piece old found (empty, here) first input behind pieces is stands =
-    let open_here : StandsOpen input pieces old.opens old.taken (drop old.taken input) = subst (λ (n : ℕ). StandsOpen input pieces old.opens n (drop n input)) here stands.stands in
-    let open_piece : StandsOpen input pieces old.opens old.taken (piece ++ behind) = subst (λ (xs : List ℕ). StandsOpen input pieces old.opens old.taken xs) is.1 open_here in
+reads_known piece old found (empty, here) first input following pieces is present =
+    let open_here : StandsOpen input pieces old.opens old.taken (drop old.taken input) = subst (λ (n : ℕ). StandsOpen input pieces old.opens n (drop n input)) here present.present in
+    let open_piece : StandsOpen input pieces old.opens old.taken (piece ++ following) = subst (λ (xs : List ℕ). StandsOpen input pieces old.opens old.taken xs) is.1 open_here in
     let none_open : kept old.opens old.begun old.taken ≡ kept [] old.begun old.taken = ap (λ (opens : List Open). kept opens old.begun old.taken) empty in
     let low : kept [] old.begun old.taken ≤ old.taken = token_high _ old.begun.start old.taken (omega (arith, here)) in
-    (one_more found open_piece empty (first_element (first.3 behind)), omega (arith, none_open, low, first.0))
+    (one_more found open_piece empty (first_element (first.3 following)), omega (arith, none_open, low, first.0))
 
 pub takes_known : (piece : List ℕ) (old : SplitterModel) (found : ElementModel) (span : Span) → span ≡ span_of found → IsBetweenElements old → BeginsWithElement piece old.taken found
     → TakesOn piece old (Ok (record { used = span.end - old.taken; whole = Some (span.start, span.end) }))

@@ -11,7 +11,7 @@ use Rattle.edn_reader.specs.Grammar.{ElementModel, waits}
 use Rattle.edn_reader.specs.Token.{found_at, lexed}
 use Rattle.edn_reader.specs.Taking.{taken, on, plain_span, LeadsOn, stays, by_token, IsPieceAt, LeadsOver, LeadsWithin, item_odd, with_odd, odd_inside}
 use Rattle.edn_reader.proofs.Lexing.{lexed_by, white_class, plain_class}
-use Rattle.edn_reader.proofs.Reading.{StandsAt, stands_next, one_ended}
+use Rattle.edn_reader.proofs.Reading.{StandsAt, present_next, one_ended}
 use Rattle.edn_reader.proofs.Stretches.{along, drop_here, drop_before}
 use Rattle.edn_reader.proofs.Resuming.{stretch_stays}
 
@@ -41,29 +41,29 @@ gap_on place end opens = refl
 -- ---- indices of a chunk
 
 -- what is left of the input at an index of a chunk
-pub in_piece : (input piece behind : List ℕ) (base at : ℕ) → IsPieceAt input base piece behind → at ≤ length piece → drop (base + at) input ≡ drop at piece ++ behind
-in_piece input piece behind base at is le = sym (drop-drop at base input) ∙ ap (drop at) is.1 ∙ drop_before at piece behind le
+pub in_piece : (input piece following : List ℕ) (base at : ℕ) → IsPieceAt input base piece following → at ≤ length piece → drop (base + at) input ≡ drop at piece ++ following
+in_piece input piece following base at is le = sym (drop-drop at base input) ∙ ap (drop at) is.1 ∙ drop_before at piece following le
 
-pub in_input : (input piece behind : List ℕ) (base at : ℕ) → IsPieceAt input base piece behind → at < length piece → base + at < length input
-in_input input piece behind base at is lt =
-    omega (arith, length-drop (base + at) input, ap length (in_piece input piece behind base at is (omega (arith, lt))), length-append (drop at piece) behind, length-drop at piece, lt)
+pub in_input : (input piece following : List ℕ) (base at : ℕ) → IsPieceAt input base piece following → at < length piece → base + at < length input
+in_input input piece following base at is lt =
+    omega (arith, length-drop (base + at) input, ap length (in_piece input piece following base at is (omega (arith, lt))), length-append (drop at piece) following, length-drop at piece, lt)
 
-left_here : (input piece behind : List ℕ) (base at : ℕ) → IsPieceAt input base piece behind → at < length piece
-    → drop (base + at) input ≡ get_or piece at 0 ∷ (drop (at + 1) piece ++ behind)
-left_here input piece behind base at is lt =
-    in_piece input piece behind base at is (omega (arith, lt)) ∙ ap (λ (xs : List ℕ). xs ++ behind) (drop_here piece at lt)
+left_here : (input piece following : List ℕ) (base at : ℕ) → IsPieceAt input base piece following → at < length piece
+    → drop (base + at) input ≡ get_or piece at 0 ∷ (drop (at + 1) piece ++ following)
+left_here input piece following base at is lt =
+    in_piece input piece following base at is (omega (arith, lt)) ∙ ap (λ (xs : List ℕ). xs ++ following) (drop_here piece at lt)
 
 -- ---- what is plain
 
 -- one white byte more
 white_on : (piece : List ℕ) (from at end : ℕ) (before odd : Bool) → at < length piece → is_white (get_or piece at 0) ≡ true → end ≡ at + 1
     → LeadsWithin piece from before at odd → LeadsWithin piece from before end odd
-white_on piece from at end before odd lt white place led item opens w input base behind is =
+white_on piece from at end before odd lt white place led item opens w input base following is =
     let b = get_or piece at 0 in
-    let rest = drop (at + 1) piece ++ behind in
-    token_on input (base + from) (base + at) (base + end) Gap 1 (item_odd before item ∷ opens) (item_odd odd item ∷ opens) (item_odd odd item ∷ opens) (in_input input piece behind base at is lt)
-    (ap lexed (left_here input piece behind base at is lt) ∙ lexed_by b rest White (white_class (class_of b) white)) (omega (arith, place))
-    (gap_on (base + at) (base + end) (item_odd odd item ∷ opens)) (led item opens w input base behind is)
+    let rest = drop (at + 1) piece ++ following in
+    token_on input (base + from) (base + at) (base + end) Gap 1 (item_odd before item ∷ opens) (item_odd odd item ∷ opens) (item_odd odd item ∷ opens) (in_input input piece following base at is lt)
+    (ap lexed (left_here input piece following base at is lt) ∙ lexed_by b rest White (white_class (class_of b) white)) (omega (arith, place))
+    (gap_on (base + at) (base + end) (item_odd odd item ∷ opens)) (led item opens w input base following is)
 
 -- all the white bytes that follow
 pub whites_on : (piece : List ℕ) (from at end : ℕ) (before odd : Bool) → end ≡ at + stretch is_white (drop at piece) → LeadsWithin piece from before at odd → LeadsWithin piece from before end odd
@@ -75,18 +75,18 @@ whites_on piece from at end before odd ends led =
 -- one element of one run more, which ends within the chunk
 pub run_on : (piece : List ℕ) (from at end : ℕ) (before odd : Bool) → at < length piece → is_plain (get_or piece at 0) ≡ true → end ≡ at + 1 + stretch is_run (drop (at + 1) piece)
     → end ≤ length piece → end ≢ length piece → LeadsWithin piece from before at odd → LeadsWithin piece from before end (not odd)
-run_on piece from at end before odd lt plain place le other led item opens w input base behind is =
+run_on piece from at end before odd lt plain place le other led item opens w input base following is =
     let b = get_or piece at 0 in
     let left = drop (at + 1) piece in
     let size = stretch is_run left in
-    let stays : stretch is_run (left ++ behind) ≡ size = stretch_stays is_run left behind (omega (arith, place, le, other, length-drop (at + 1) piece)) in
+    let stays : stretch is_run (left ++ following) ≡ size = stretch_stays is_run left following (omega (arith, place, le, other, length-drop (at + 1) piece)) in
     token_on input (base + from) (base + at) (base + end) (Leaf Atom) (1 + size) (item_odd before item ∷ opens) (item_odd odd item ∷ opens) (item_odd (not odd) item ∷ opens)
-    (in_input input piece behind base at is lt)
-    (ap lexed (left_here input piece behind base at is lt) ∙ lexed_by b (left ++ behind) Plain (plain_class (class_of b) plain) ∙ ap (λ (n : ℕ). (Leaf Atom, 1 + n)) stays)
-    (omega (arith, place)) (one_more_inside (base + at) (base + end) odd item opens w) (led item opens w input base behind is)
+    (in_input input piece following base at is lt)
+    (ap lexed (left_here input piece following base at is lt) ∙ lexed_by b (left ++ following) Plain (plain_class (class_of b) plain) ∙ ap (λ (n : ℕ). (Leaf Atom, 1 + n)) stays)
+    (omega (arith, place)) (one_more_inside (base + at) (base + end) odd item opens w) (led item opens w input base following is)
 
 pub none_on : (piece : List ℕ) (from : ℕ) (odd : Bool) → LeadsWithin piece from odd from odd
-none_on piece from odd item opens w input base behind is = stays
+none_on piece from odd item opens w input base following is = stays
 
 inside_by : (piece : List ℕ) (from end : ℕ) (odd odd_then w : Bool) (item : Open) (opens : List Open) → waits item.opener ≡ w → cond w None (Some item.odd) ≡ Some odd
     → LeadsWithin piece from odd end odd_then → LeadsOver piece from (item ∷ opens) end (item_odd odd_then item ∷ opens)
@@ -103,10 +103,10 @@ leads_inside piece from end odd odd_then (item ∷ opens) after is led same =
     subst (LeadsOver piece from (item ∷ opens) end) (sym same) (inside_by piece from end odd odd_then (waits item.opener) item opens refl is led)
 
 pub leads_nowhere : (piece : List ℕ) (from : ℕ) (opens : List Open) → LeadsOver piece from opens from opens
-leads_nowhere piece from opens input base behind is = stays
+leads_nowhere piece from opens input base following is = stays
 
 -- tokens lead from what is open at one place to what is open at another
-pub stands_led : (input : List ℕ) (pieces : List ElementModel) (from end : ℕ) (opens after : List Open) → StandsAt input pieces opens from → LeadsOn input from opens end after → StandsAt input pieces after end
-stands_led input pieces from end opens after s stays = s
-stands_led input pieces from end opens after s (by_token {at = at} {inner = inner} led lt e) =
-    stands_next input pieces at (found_at at (lexed (drop at input))) inner after lt (stands_led input pieces from at opens inner s led) refl e
+pub present_led : (input : List ℕ) (pieces : List ElementModel) (from end : ℕ) (opens after : List Open) → StandsAt input pieces opens from → LeadsOn input from opens end after → StandsAt input pieces after end
+present_led input pieces from end opens after s stays = s
+present_led input pieces from end opens after s (by_token {at = at} {inner = inner} led lt e) =
+    present_next input pieces at (found_at at (lexed (drop at input))) inner after lt (present_led input pieces from at opens inner s led) refl e

@@ -22,7 +22,7 @@ use Rattle.edn_reader.specs.Lent.{piece_of, PartsLeft, HoldsParts, part_bytes, N
 use Rattle.edn_reader.specs.Pairs.{PartsFrom, HasParts, HoldsMembers, in_turn, HoldsPairs}
 use Rattle.edn_reader.specs.Skipping.{IsInside}
 use Rattle.edn_reader.specs.Text.{IsText, outermost}
-use Rattle.edn_reader.proofs.Ended.{stands_text}
+use Rattle.edn_reader.proofs.Ended.{present_text}
 use Rattle.edn_reader.proofs.Reading.{settled_text}
 use Rattle.edn_reader.proofs.Viable.{one_division, no_fault}
 use Rattle.edn_reader.proofs.Views.{each_is_element, parts_are_elements, untagged_is_element, OneByte, square, curly, opened_by, tail_same, has_parts, has_pairs, parts_of_inside, FoundPart}
@@ -51,7 +51,7 @@ alone_text : (piece : ElementModel) → IsElement piece → IsText (alone piece)
 alone_text piece h =
     let place : 0 + piece.start ≡ piece.start = omega arith in
     let gap : IsGap 64 0 (alone piece) piece.start piece.text = subst (λ (p : ℕ). IsGap 64 0 (alone piece) p piece.text) place (gap_of_spaces piece.start 0 piece.text) in
-    stands_text (outermost (next gap h.1 (sym (append-nil piece.text)) none) nothing)
+    present_text (outermost (next gap h.1 (sym (append-nil piece.text)) none) nothing)
 
 pub decided : (piece : ElementModel) → ∥ IsElement piece ∥₁ → IsElement piece
 decided piece some =
@@ -102,26 +102,26 @@ inside_bracket bracket byte place bytes pieces h =
     subst (λ (p : ℕ). PartsFrom (opener_of bracket) p bytes pieces) o.place (subst (λ (x : List ℕ). PartsFrom (opener_of bracket) h.inner x pieces) tail h.inside)
 
 pub decided_pairs : (place : ℕ) (bytes : List ℕ) → 0 < place → ∥ HoldsPairs place bytes ∥₁ → HoldsPairs place bytes
-decided_pairs zero bytes behind some = absurd (omega (arith, behind))
-decided_pairs (suc place) bytes behind some =
+decided_pairs zero bytes following some = absurd (omega (arith, following))
+decided_pairs (suc place) bytes following some =
     let piece = with_bracket Curly 123 place bytes in
     let there : ∥ IsElement piece ∥₁ = ∥∥₁_map some (λ h. bracket_element Curly 123 curly place bytes (in_turn h.0) h.1 (odd_not h.0)) in
     let found = has_pairs piece (decided piece there) refl in
     (found.0, inside_bracket Curly 123 place bytes (in_turn found.0) found.1)
 
 pub decided_members : (place : ℕ) (bytes : List ℕ) → 0 < place → ∥ HoldsMembers place bytes ∥₁ → HoldsMembers place bytes
-decided_members zero bytes behind some = absurd (omega (arith, behind))
-decided_members (suc place) bytes behind some =
+decided_members zero bytes following some = absurd (omega (arith, following))
+decided_members (suc place) bytes following some =
     let piece = with_bracket Square 91 place bytes in
     let there : ∥ IsElement piece ∥₁ = ∥∥₁_map some (λ h. bracket_element Square 91 square place bytes h.0 h.1 refl) in
     let found = has_parts Square piece (decided piece there) refl in
     (found.0, inside_bracket Square 91 place bytes found.0 found.1)
 
 pub pairs_there : (view : MapView) → (pairs : List (ElementModel × ElementModel)) × PairsLeft view pairs
-pairs_there view = decided_pairs view.parts.at view.parts.left.now view.behind view.whole
+pairs_there view = decided_pairs view.parts.at view.parts.left.now view.following view.whole
 
 pub members_there : (view : VectorView) → (members : List ElementModel) × MembersLeft view members
-members_there view = decided_members view.parts.at view.parts.left.now view.behind view.whole
+members_there view = decided_members view.parts.at view.parts.left.now view.following view.whole
 
 -- ---- views of an element
 
@@ -181,14 +181,14 @@ pub members_left : (old after : Parts) (given : Option Element) → Gives opener
 members_left old after given first goes some = ∥∥₁_map some (λ h. members_after old after given first goes h.0 h.1)
 
 -- what a view of a vector has left determines the view
-same_view : (view : VectorView) (parts : Parts) → view.parts ≡ parts → (behind : 0 < parts.at) (whole : ∥ HoldsMembers parts.at parts.left.now ∥₁) → record { parts = parts; behind = behind; whole = whole } ≡ view
+same_view : (view : VectorView) (parts : Parts) → view.parts ≡ parts → (following : 0 < parts.at) (whole : ∥ HoldsMembers parts.at parts.left.now ∥₁) → record { parts = parts; following = following; whole = whole } ≡ view
 same_view view parts same =
-    let Same : Parts → Type 0 = λ p. (behind : 0 < p.at) (whole : ∥ HoldsMembers p.at p.left.now ∥₁) → record { parts = p; behind = behind; whole = whole } ≡ view in
-    subst Same same (λ behind whole.
-    ap (λ (b : 0 < view.parts.at). record { parts = view.parts; behind = b; whole = whole }) (le_prop behind view.behind)
-    ∙ ap (λ (w : ∥ HoldsMembers view.parts.at view.parts.left.now ∥₁). record { parts = view.parts; behind = view.behind; whole = w }) (squash₁ whole view.whole))
+    let Same : Parts → Type 0 = λ p. (following : 0 < p.at) (whole : ∥ HoldsMembers p.at p.left.now ∥₁) → record { parts = p; following = following; whole = whole } ≡ view in
+    subst Same same (λ following whole.
+    ap (λ (b : 0 < view.parts.at). record { parts = view.parts; following = b; whole = whole }) (le_prop following view.following)
+    ∙ ap (λ (w : ∥ HoldsMembers view.parts.at view.parts.left.now ∥₁). record { parts = view.parts; following = view.following; whole = w }) (squash₁ whole view.whole))
 
 pub view_shrinks : (old after : VectorView) (given : Option Element) → MatchOption given (after.parts ≡ old.parts) (λ element. part_bytes after.parts < part_bytes old.parts)
     → MatchOption given (after ≡ old) (λ element. part_bytes after.parts < part_bytes old.parts)
-view_shrinks old after None same = same_view old after.parts (sym same) after.behind after.whole
+view_shrinks old after None same = same_view old after.parts (sym same) after.following after.whole
 view_shrinks old after (Some element) less = less

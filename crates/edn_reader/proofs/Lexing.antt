@@ -38,10 +38,6 @@ backslash_by : (c : ℕ) (bytes : List ℕ) → after_backslash (c ∷ bytes) �
 unfolding after_backslash
 backslash_by c bytes = refl
 
-backslash_alone : after_backslash [] ≡ (Unfinished, 1)
-unfolding after_backslash
-backslash_alone = refl
-
 quoted_by : (n : ℕ) (bytes : List ℕ) (size : ℕ) → quoted_length bytes ≡ Some size → quoted_token n bytes ≡ (Leaf Text, n + size)
 quoted_by n bytes size e = ap (text_token n bytes) e
 
@@ -218,26 +214,23 @@ fits_text opened bytes (Some n) some e = record { within = omega (arith, quoted_
 fits_token : (n size : ℕ) (token : Token) → size ≤ n → 0 < size → token ≢ Unfinished → Fits n (token, size)
 fits_token n size token within some u = record { within = within; some = some; all = λ h. absurd (u h) }
 
-fits_tag : (bytes : List ℕ) → Fits (1 + length bytes) (tag_token bytes)
-fits_tag bytes = fits_token _ _ _ (omega (arith, stretch_within is_run bytes)) (omega arith) (λ h. cc)
-
 fits_plain : (c : ℕ) (bytes : List ℕ) (t : Bool) → Fits (2 + length bytes) (cond t (Opening openers.Discard, 2) (tag_token (c ∷ bytes)))
 fits_plain c bytes true = fits_token _ _ _ (omega arith) (omega arith) (λ h. cc)
 fits_plain c bytes false = fits_token _ _ _ (omega (arith, stretch_within is_run (c ∷ bytes))) (omega arith) (λ h. cc)
 
-fits_behind : (c : ℕ) (bytes : List ℕ) → Fits (2 + length bytes) (tag_token (c ∷ bytes))
-fits_behind c bytes = fits_plain c bytes false
+fits_after : (c : ℕ) (bytes : List ℕ) → Fits (2 + length bytes) (tag_token (c ∷ bytes))
+fits_after c bytes = fits_plain c bytes false
 
 fits_hash : (k : ByteClass) (c : ℕ) (bytes : List ℕ) → Fits (2 + length bytes) (hash_token k c bytes)
 fits_hash Hash c bytes = fits_token _ _ _ (omega (arith, stretch_within is_run bytes)) (omega arith) (λ h. cc)
 fits_hash Quote c bytes = fits_text 2 bytes (quoted_length bytes) (omega arith) refl
 fits_hash (Opens Curly) c bytes = fits_token _ _ _ (omega arith) (omega arith) (λ h. cc)
-fits_hash (Opens Round) c bytes = fits_behind c bytes
-fits_hash (Opens Square) c bytes = fits_behind c bytes
-fits_hash (Closes bracket) c bytes = fits_behind c bytes
-fits_hash White c bytes = fits_behind c bytes
-fits_hash Semicolon c bytes = fits_behind c bytes
-fits_hash Backslash c bytes = fits_behind c bytes
+fits_hash (Opens Round) c bytes = fits_after c bytes
+fits_hash (Opens Square) c bytes = fits_after c bytes
+fits_hash (Closes bracket) c bytes = fits_after c bytes
+fits_hash White c bytes = fits_after c bytes
+fits_hash Semicolon c bytes = fits_after c bytes
+fits_hash Backslash c bytes = fits_after c bytes
 fits_hash Plain c bytes = fits_plain c bytes (eqb c 95)
 
 pub fits_after_hash : (bytes : List ℕ) → Fits (1 + length bytes) (after_hash bytes)
@@ -269,10 +262,6 @@ fits_here b bytes = fits_class (class_of b) bytes
 pub lexed_nothing : lexed [] ≡ (Unfinished, 0)
 unfolding lexed
 lexed_nothing = refl
-
-pub lexed_within : (a : List ℕ) → (lexed a).1 ≤ length a
-lexed_within [] = let none_is : (lexed []).1 ≡ 0 = ap (λ (x : Token × ℕ). x.1) lexed_nothing in omega arith
-lexed_within (b ∷ bytes) = omega (arith, (fits_here b bytes).within)
 
 pub lexed_some : (a : List ℕ) → 0 < length a → 0 < (lexed a).1
 lexed_some [] some = absurd (omega arith)

@@ -200,22 +200,22 @@ mutual
       let same : n.place.front ≡ piece.text = cancel_end n.place.front piece.text beyond (sym n.place.here ∙ whole) in
       (g.0, next g.1 n.element (n.place.there ∙ ap (λ (s : List ℕ). s ++ m.0) same) m.1, replaced_then g.2 (replaced_then n.place m.2))
 
-pub moved_stands : {input : List ℕ} {pieces : List ElementModel} {opens : List Open} {q : ℕ} {b : List ℕ} → StandsOpen input pieces opens q b → (e : List ℕ) → Follows b e
+pub moved_present : {input : List ℕ} {pieces : List ElementModel} {opens : List Open} {q : ℕ} {b : List ℕ} → StandsOpen input pieces opens q b → (e : List ℕ) → Follows b e
     → (others : List ℕ) × StandsOpen others pieces opens q e × Replaced 0 input q b others e
-moved_stands (outermost els gap) e f =
+moved_present (outermost els gap) e f =
     let g = moved_gap gap e f in
     let m = moved_elements els g.0 (follows_before g.2 f) in
     (m.0, outermost m.1 g.1, replaced_then m.2 g.2)
-moved_stands (opened stands token room (within bracket els gap)) e f =
+moved_present (opened present token room (within bracket els gap)) e f =
     let g = moved_gap gap e f in
     let m = moved_elements els g.0 (follows_before g.2 f) in
     let t = moved_token token m.0 (follows_before m.2 (follows_before g.2 f)) in
-    let s = moved_stands stands t.bytes t.begins in
+    let s = moved_present present t.bytes t.begins in
     (s.0, opened s.1 t.token room (within bracket m.1 g.1), replaced_then s.2 (replaced_then t.place (replaced_then m.2 g.2)))
-moved_stands (opened stands token room (waiting bracket gap)) e f =
+moved_present (opened present token room (waiting bracket gap)) e f =
     let g = moved_gap gap e f in
     let t = moved_token token g.0 (follows_before g.2 f) in
-    let s = moved_stands stands t.bytes t.begins in
+    let s = moved_present present t.bytes t.begins in
     (s.0, opened s.1 t.token room (waiting bracket g.1), replaced_then s.2 (replaced_then t.place g.2))
 
 -- ---- room
@@ -248,9 +248,6 @@ gap_forward {b = b} gap = let m = moved_gap gap b (λ h. h, λ h. h, λ h. h) in
 
 pub token_forward : {t : Token} {p q : ℕ} {a b : List ℕ} → IsToken t p a q b → p < q
 token_forward {t = t} {b = b} token = (moved_token token b (needed t b b (λ h. h, λ h. h, λ h. h))).some
-
-element_forward : {room p q : ℕ} {kind : ElementKind} {core : Core} {a b : List ℕ} → IsElementAt room kind core p a q b → p ≤ q
-element_forward {b = b} element = let m = moved_element element b (λ h. h) in omega (arith, m.place.place)
 
 pub elements_forward : {room p q : ℕ} {pieces : List ElementModel} {a b : List ℕ} → IsElements room p a pieces q b → p ≤ q
 elements_forward {b = b} els = let m = moved_elements els b (λ h. h, λ h. h, λ h. h) in omega (arith, m.2.place)

@@ -20,14 +20,14 @@ use Rattle.edn_reader.specs.Grammar.{ElementModel, IsToken, opening, set, discar
 use Rattle.edn_reader.specs.Text.{IsFront, IsText, StandsOpen, outermost, opened}
 use Rattle.edn_reader.specs.Fault.{by_bracket, by_hash, Refuses, too_deep, closing, FaultOf, wanted_at, CanWantMemory, MemoryOnlyThere, AreElementsBefore, innermost}
 use Rattle.edn_reader.specs.Token.{found_at, lexed}
-use Rattle.edn_reader.specs.Taking.{Taken, on, ends, fails, with_one, is_tag, behind_tag, completed, EndsOne, plain_span, fault_before, closed, taken, GrowthRefused, piece_in}
+use Rattle.edn_reader.specs.Taking.{Taken, on, ends, fails, with_one, is_tag, after_tag, completed, EndsOne, plain_span, fault_before, closed, taken, GrowthRefused, piece_in}
 use Rattle.edn_reader.specs.Within.{OneMore}
 use Rattle.edn_reader.proofs.Lexing.{token_lexed, lexed_some, unfinished_long, finishing}
 use Rattle.edn_reader.proofs.Places.{moved_elements}
-use Rattle.edn_reader.proofs.Steps.{stands_gap, stands_opened, stands_closed}
+use Rattle.edn_reader.proofs.Steps.{present_gap, present_opened, present_closed}
 use Rattle.edn_reader.proofs.Runs.{goes, settled, settles, front_taken}
-use Rattle.edn_reader.proofs.Unique.{Ending, ending_stands, ending_end, front_fewer, agree}
-use Rattle.edn_reader.proofs.Ended.{elements_left, stands_left, stands_room, stands_text, Stands, stands_completed}
+use Rattle.edn_reader.proofs.Unique.{Ending, ending_present, ending_end, front_fewer, agree}
+use Rattle.edn_reader.proofs.Ended.{elements_left, present_left, present_room, present_text, Stands, present_completed}
 use Rattle.edn_reader.proofs.Viable.{fault_refused, ending_refused, fault_open_end, fault_unfinished}
 
 -- ---- one token
@@ -53,15 +53,15 @@ says_refused {p} {a = a} {opens = opens} s r = record { met = fault_refused s r;
 never_fails : (span : Span) (opens : List Open) (fault : EdnFault) → completed span opens ≡ fails fault → ⊥
 never_fails span opens fault e = let both : Some (settled span opens) ≡ None = sym (settles span opens) ∙ ap goes e in absurd cc
 
-says_stands : (input : List ℕ) (pieces : List ElementModel) (q : ℕ) (b : List ℕ) (t : Taken) → ((fault : EdnFault) → t ≡ fails fault → ⊥) → Stands input pieces q b t → Says input pieces q b t
-says_stands input pieces q b (on opens) h s = s
-says_stands input pieces q b (ends span) h s = s
-says_stands input pieces q b (fails fault) h s = absurd (h fault refl)
+says_present : (input : List ℕ) (pieces : List ElementModel) (q : ℕ) (b : List ℕ) (t : Taken) → ((fault : EdnFault) → t ≡ fails fault → ⊥) → Stands input pieces q b t → Says input pieces q b t
+says_present input pieces q b (on opens) h s = s
+says_present input pieces q b (ends span) h s = s
+says_present input pieces q b (fails fault) h s = absurd (h fault refl)
 
 says_completed : {input b : List ℕ} {pieces : List ElementModel} (opens : List Open) (span : Span) (a : List ℕ) → StandsOpen input pieces opens span.start a
     → ((room : ℕ) → room + length opens ≡ 64 → IsElementAt room span.kind span.core span.start a span.end b) → Says input pieces span.end b (completed span opens)
 says_completed {input} {b} {pieces} opens span a s element =
-    says_stands input pieces span.end b (completed span opens) (never_fails span opens) (stands_completed opens span a s element)
+    says_present input pieces span.end b (completed span opens) (never_fails span opens) (present_completed opens span a s element)
 
 -- what opens while 64 are open is refused
 deep_refused : {opener : Opener} {p q : ℕ} {a b : List ℕ} {opens : List Open} → IsToken (tokens.Opens opener) p a q b → length opens ≡ 64
@@ -80,9 +80,9 @@ says_opened : {p q : ℕ} {input a b : List ℕ} {pieces : List ElementModel} (o
 says_opened opener opens true e s token =
     let full : length opens ≡ 64 = grind (arith, nat_tests) in says_refused s (deep_refused token full).1
 says_opened opener opens false e s token =
-    let most = stands_room opens s in
+    let most = present_room opens s in
     let room : length opens < 64 = grind (arith, nat_tests) in
-    stands_opened opener (waits opener) refl s token room
+    present_opened opener (waits opener) refl s token room
 
 -- ---- a closing bracket
 
@@ -111,7 +111,7 @@ says_paired : {p q : ℕ} {input a b : List ℕ} {pieces : List ElementModel} {b
     → StandsOpen input pieces (item ∷ opens) p a → IsToken (tokens.Closes bracket) p a q b → Says input pieces q b (cond t (fails (faults.OddMap p)) (completed (plain_span (kind_of item.opener) item.place q) opens))
 says_paired item opens true e w f s token = let c = closing_of token in says_refused s (refuses_at c.bytes (closing c.is (rw (w, f, w, e) refl)))
 says_paired {q = q} item opens false e w f s token =
-    let c = stands_closed w s token f e in
+    let c = present_closed w s token f e in
     says_completed opens (plain_span (kind_of item.opener) item.place q) c.bytes c.before c.element
 
 says_closed_by : {p q : ℕ} {input a b : List ℕ} {pieces : List ElementModel} {bracket : Bracket} (item : Open) (opens : List Open) (w f : Bool) → waits item.opener ≡ w → fits item.opener bracket ≡ f
@@ -137,12 +137,12 @@ says_unfinished {p} {input} {a} {pieces} opens s some e =
     let stuck : goes (front_taken p a opens) ≡ None = ap (λ (t : Token). goes (taken t p (p + (lexed a).1) opens)) e in
     let met = fault_unfinished s some (finishing a some e) stuck in
     let long : p + length a ≡ p + (lexed a).1 = ap (λ (n : ℕ). p + n) (sym (unfinished_long a e)) in
-    record { met = subst (λ (n : ℕ). FaultOf input (faults.Truncated n)) long met; place = p; bytes = a; opens = opens; ending = ending_stands s stuck }
+    record { met = subst (λ (n : ℕ). FaultOf input (faults.Truncated n)) long met; place = p; bytes = a; opens = opens; ending = ending_present s stuck }
 
 token_by : (input : List ℕ) (pieces : List ElementModel) (opens : List Open) (p : ℕ) (a : List ℕ) (t : Token) → (lexed a).0 ≡ t → StandsOpen input pieces opens p a → 0 < length a
     → Says input pieces (p + (lexed a).1) (drop (lexed a).1 a) (taken t p (p + (lexed a).1) opens)
 unfolding taken
-token_by input pieces opens p a tokens.Gap e s some = let token = token_lexed p a tokens.Gap e (λ h. cc) in stands_gap s (λ room fit. skipped token nothing)
+token_by input pieces opens p a tokens.Gap e s some = let token = token_lexed p a tokens.Gap e (λ h. cc) in present_gap s (λ room fit. skipped token nothing)
 token_by input pieces opens p a (tokens.Leaf kind) e s some =
     let token = token_lexed p a (tokens.Leaf kind) e (λ h. cc) in
     says_completed opens (plain_span kind p (p + (lexed a).1)) a s (λ room fit. leaf token)
@@ -175,12 +175,12 @@ said input pieces at found opens t lt s e f =
     subst (Says input pieces (at + (lexed (drop at input)).1) (drop (lexed (drop at input)).1 (drop at input))) (sym (found_front input at found opens e) ∙ f)
     (says input pieces opens at (drop at input) s (some_left input at lt))
 
-pub stands_next : (input : List ℕ) (pieces : List ElementModel) (at : ℕ) (found : Found) (opens after : List Open) → at < length input → StandsAt input pieces opens at → found ≡ found_at at (lexed (drop at input))
+pub present_next : (input : List ℕ) (pieces : List ElementModel) (at : ℕ) (found : Found) (opens after : List Open) → at < length input → StandsAt input pieces opens at → found ≡ found_at at (lexed (drop at input))
     → taken found.token at found.end opens ≡ on after → StandsAt input pieces after found.end
-stands_next input pieces at found opens after lt s e f =
+present_next input pieces at found opens after lt s e f =
     let now = said input pieces at found opens (on after) lt s e f in
     let place : at + (lexed (drop at input)).1 ≡ found.end = sym (ap (λ (x : Found). x.end) e) in
-    let rest : drop (lexed (drop at input)).1 (drop at input) ≡ drop found.end input = stands_left now ∙ ap (λ (n : ℕ). drop n input) place in
+    let rest : drop (lexed (drop at input)).1 (drop at input) ≡ drop found.end input = present_left now ∙ ap (λ (n : ℕ). drop n input) place in
     subst (λ (n : ℕ). StandsOpen input pieces after n (drop found.end input)) place (subst (λ (b : List ℕ). StandsOpen input pieces after (at + (lexed (drop at input)).1) b) rest now)
 
 pub elements_within : {q : ℕ} {pieces : List ElementModel} {input rest : List ℕ} → IsElements 64 0 input pieces q rest → q ≤ length input
@@ -196,7 +196,7 @@ completed_ends : (opens : List Open) (span s : Span) → completed span opens �
 unfolding completed
 completed_ends [] span s e = let same : span ≡ s = cc in ap (λ (x : Span). x.end) (sym same)
 completed_ends (item ∷ opens) span s e =
-    ends_by (is_tag item.opener) (waits item.opener) (completed (behind_tag item span) opens) opens (with_one item ∷ opens) s span.end (completed_ends opens (behind_tag item span) s) e
+    ends_by (is_tag item.opener) (waits item.opener) (completed (after_tag item span) opens) opens (with_one item ∷ opens) s span.end (completed_ends opens (after_tag item span) s) e
 
 closed_by : (w f o : Bool) (x : Taken) (a b c : EdnFault) (s : Span) (n : ℕ) → (x ≡ ends s → s.end ≡ n) → cond w (fails a) (cond f (cond o (fails b) x) (fails c)) ≡ ends s → s.end ≡ n
 closed_by true f o x a b c s n h e = absurd cc
@@ -266,10 +266,10 @@ memory_next input pieces at found fault opens after s e refused =
       opener = opener;
       inner = at + (lexed left).1;
       left = drop (lexed left).1 left;
-      stands = s;
+      present = s;
       begins = token_lexed at left (tokens.Opens opener) is (λ h. cc);
       many = many;
-      room = omega (arith, stands_room opens s);
+      room = omega (arith, present_room opens s);
     }))
 
 nothing_left : (at : ℕ) (input : List ℕ) → length input ≤ at → drop at input ≡ []
@@ -277,7 +277,7 @@ nothing_left at input le = drop_of_length-le input le
 
 -- at its end the input is a text where nothing is open, and else it ends too early
 pub text_end : (input : List ℕ) (pieces : List ElementModel) (at : ℕ) → length input ≤ at → StandsAt input pieces [] at → IsText input pieces
-text_end input pieces at le s = stands_text (subst (λ (r : List ℕ). StandsOpen input pieces [] at r) (nothing_left at input le) s)
+text_end input pieces at le s = present_text (subst (λ (r : List ℕ). StandsOpen input pieces [] at r) (nothing_left at input le) s)
 
 fails_open : {p : ℕ} {input : List ℕ} {pieces : List ElementModel} {item : Open} {opens : List Open} → StandsOpen input pieces (item ∷ opens) p [] → Fails input pieces (faults.Truncated p)
 fails_open {p} {item = item} {opens = opens} s = record { met = fault_open_end s; place = p; bytes = []; opens = item ∷ opens; ending = ending_end s }
@@ -301,7 +301,7 @@ settle_token fuel input pieces q b le later (ends span) s = later (pieces ++ pie
 settle_token fuel input pieces q b le later (fails fault) s = inr (fault, s.met)
 
 settle_end : (input : List ℕ) (pieces : List ElementModel) (opens : List Open) (p : ℕ) → StandsOpen input pieces opens p [] → Settled input
-settle_end input pieces [] p s = inl (pieces, stands_text s)
+settle_end input pieces [] p s = inl (pieces, present_text s)
 settle_end input pieces (item ∷ opens) p s = inr (faults.Truncated p, fault_open_end s)
 
 settle : (input : List ℕ) (fuel : ℕ) → Later input fuel
@@ -316,7 +316,7 @@ settled_text input = settle input (length input) [] [] 0 input (omega arith) (ou
 
 -- ---- an element that ended
 
-completed_tag : (span : Span) (item : Open) (opens : List Open) → item.opener ≡ openers.Tag → completed span (item ∷ opens) ≡ completed (behind_tag item span) opens
+completed_tag : (span : Span) (item : Open) (opens : List Open) → item.opener ≡ openers.Tag → completed span (item ∷ opens) ≡ completed (after_tag item span) opens
 unfolding completed
 completed_tag span item opens e = rw e refl
 
@@ -330,11 +330,11 @@ no_tag_by openers.Discard x y z h = refl
 
 completed_one : (span : Span) (item : Open) (opens : List Open) → (item.opener ≡ openers.Tag → ⊥) → completed span (item ∷ opens) ≡ on (cond (waits item.opener) opens (with_one item ∷ opens))
 unfolding completed
-completed_one span item opens h = no_tag_by item.opener (completed (behind_tag item span) opens) opens (with_one item ∷ opens) h
+completed_one span item opens h = no_tag_by item.opener (completed (after_tag item span) opens) opens (with_one item ∷ opens) h
 
-pub tag_ended : (span : Span) (item : Open) (before after : List Open) → EndsOne (Some item) before after → item.opener ≡ openers.Tag → completed span before ≡ completed (behind_tag item span) after
+pub tag_ended : (span : Span) (item : Open) (before after : List Open) → EndsOne (Some item) before after → item.opener ≡ openers.Tag → completed span before ≡ completed (after_tag item span) after
 tag_ended span item before after (others, whole, rest) e =
-    ap (completed span) whole ∙ completed_tag span item others e ∙ ap (completed (behind_tag item span)) (sym (rest ∙ ap (λ (o : Opener). cond (waits o) others (with_one item ∷ others)) e))
+    ap (completed span) whole ∙ completed_tag span item others e ∙ ap (completed (after_tag item span)) (sym (rest ∙ ap (λ (o : Opener). cond (waits o) others (with_one item ∷ others)) e))
 
 pub one_ended : (span : Span) (item : Open) (before after : List Open) → EndsOne (Some item) before after → (item.opener ≡ openers.Tag → ⊥) → completed span before ≡ on after
 one_ended span item before after (others, whole, rest) h = ap (completed span) whole ∙ completed_one span item others h ∙ ap on (sym rest)
@@ -342,8 +342,3 @@ one_ended span item before after (others, whole, rest) h = ap (completed span) w
 pub none_ended : (span : Span) (before after : List Open) → EndsOne None before after → completed span before ≡ ends span
 unfolding completed
 none_ended span before after (empty, also) = ap (completed span) empty
-
-pub ends_shorter : (item : Open) (before after : List Open) → EndsOne (Some item) before after → item.opener ≡ openers.Tag → length after < length before
-ends_shorter item before after (others, whole, rest) e =
-    let left : after ≡ others = rest ∙ ap (λ (o : Opener). cond (waits o) others (with_one item ∷ others)) e in
-    omega (arith, ap length whole, ap length left)

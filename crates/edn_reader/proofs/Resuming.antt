@@ -138,62 +138,62 @@ quoted_shift bytes rest n k m is e long = ap (text_token 0 bytes) is ∙ text_sh
 
 -- the Text that goes on at the first index goes on at the second one, so many bytes later
 abbrev pub SameText : List ℕ → ℕ → ℕ → Type 0
-SameText bytes from at = (behind : List ℕ) → quoted_length (drop from bytes ++ behind) ≡ add_length (at - from) (quoted_length (drop at bytes ++ behind))
+SameText bytes from at = (following : List ℕ) → quoted_length (drop from bytes ++ following) ≡ add_length (at - from) (quoted_length (drop at bytes ++ following))
 
-pub text_ended : (bytes : List ℕ) (from at end : ℕ) → from ≤ at → at < end → end ≤ length bytes → ((behind : List ℕ) → quoted_length (drop at bytes ++ behind) ≡ Some (end - at)) → SameText bytes from at
+pub text_ended : (bytes : List ℕ) (from at end : ℕ) → from ≤ at → at < end → end ≤ length bytes → ((following : List ℕ) → quoted_length (drop at bytes ++ following) ≡ Some (end - at)) → SameText bytes from at
     → LooksAhead Text from (drop from bytes) (Whole (record { token = tokens.Leaf kinds.Text; end = end }))
 unfolding LooksAhead add_length
 text_ended bytes from at end low lt high is same = (
   omega (arith, low, lt),
   omega (arith, length-drop from bytes, low, lt, high),
-  λ behind.
-      ap (text_token 0 (drop from bytes ++ behind)) (same behind ∙ ap (add_length (at - from)) (is behind))
+  λ following.
+      ap (text_token 0 (drop from bytes ++ following)) (same following ∙ ap (add_length (at - from)) (is following))
       ∙ same_size (tokens.Leaf kinds.Text) (0 + (at - from + (end - at))) (end - from) (omega (arith, low, lt)),
 )
 
-escape_by : (bytes behind : List ℕ) (n b : ℕ) → b ≡ 92 → length bytes ≡ n → quoted_length (bytes ++ behind) ≡ add_length (n - 1) (quoted_length (b ∷ behind)) → 0 < n
-    → resumed Text (bytes ++ behind) ≡ longer n (resumed Escape behind)
+escape_by : (bytes following : List ℕ) (n b : ℕ) → b ≡ 92 → length bytes ≡ n → quoted_length (bytes ++ following) ≡ add_length (n - 1) (quoted_length (b ∷ following)) → 0 < n
+    → resumed Text (bytes ++ following) ≡ longer n (resumed Escape following)
 unfolding add_length
 escape_by bytes [] n b e long is some =
     ap (text_token 0 (bytes ++ [])) (is ∙ ap (add_length (n - 1)) (quoted_last b (omega (arith, e)))) ∙ same_size tokens.Unfinished (0 + length (bytes ++ [])) (n + 0) (omega (arith, long, length-append bytes []))
-escape_by bytes (c ∷ behind) n b e long is some =
-    let rest = quoted_length behind in
-    quoted_shift (bytes ++ c ∷ behind) behind n 1 (n + 1)
-    (is ∙ ap (add_length (n - 1)) (quoted_taken b c behind e ∙ add_two_length rest) ∙ add_twice (n - 1) 2 (n + 1) rest (omega (arith, some)))
-    refl (omega (arith, long, length-append bytes (c ∷ behind)))
+escape_by bytes (c ∷ following) n b e long is some =
+    let rest = quoted_length following in
+    quoted_shift (bytes ++ c ∷ following) following n 1 (n + 1)
+    (is ∙ ap (add_length (n - 1)) (quoted_taken b c following e ∙ add_two_length rest) ∙ add_twice (n - 1) 2 (n + 1) rest (omega (arith, some)))
+    refl (omega (arith, long, length-append bytes (c ∷ following)))
 
 pub text_escaped : (bytes : List ℕ) (from at place : ℕ) → from ≤ at → at ≤ place → place + 1 ≡ length bytes → get_or bytes place 0 ≡ 92
-    → ((behind : List ℕ) → quoted_length (drop at bytes ++ behind) ≡ add_length (place - at) (quoted_length (get_or bytes place 0 ∷ behind))) → SameText bytes from at
+    → ((following : List ℕ) → quoted_length (drop at bytes ++ following) ≡ add_length (place - at) (quoted_length (get_or bytes place 0 ∷ following))) → SameText bytes from at
     → LooksAhead Text from (drop from bytes) (Within Escape)
 unfolding LooksAhead
-text_escaped bytes from at place low le last_one e is same behind =
+text_escaped bytes from at place low le last_one e is same following =
     let long = length-drop from bytes in
-    escape_by (drop from bytes) behind (length (drop from bytes)) (get_or bytes place 0) e refl
-    (same behind ∙ ap (add_length (at - from)) (is behind)
-    ∙ add_twice (at - from) (place - at) (length (drop from bytes) - 1) (quoted_length (get_or bytes place 0 ∷ behind)) (omega (arith, long, low, le, last_one)))
+    escape_by (drop from bytes) following (length (drop from bytes)) (get_or bytes place 0) e refl
+    (same following ∙ ap (add_length (at - from)) (is following)
+    ∙ add_twice (at - from) (place - at) (length (drop from bytes) - 1) (quoted_length (get_or bytes place 0 ∷ following)) (omega (arith, long, low, le, last_one)))
     (omega (arith, long, low, le, last_one))
 
 pub text_open : (bytes : List ℕ) (from at : ℕ) → from ≤ at → at ≤ length bytes
-    → ((behind : List ℕ) → quoted_length (drop at bytes ++ behind) ≡ add_length (length (drop at bytes)) (quoted_length behind)) → SameText bytes from at
+    → ((following : List ℕ) → quoted_length (drop at bytes ++ following) ≡ add_length (length (drop at bytes)) (quoted_length following)) → SameText bytes from at
     → LooksAhead Text from (drop from bytes) (Within Text)
 unfolding LooksAhead
-text_open bytes from at low high is same behind =
+text_open bytes from at low high is same following =
     let long = length-drop from bytes in
     let left = length-drop at bytes in
-    quoted_shift (drop from bytes ++ behind) behind (length (drop from bytes)) 0 (length (drop from bytes))
-    (same behind ∙ ap (add_length (at - from)) (is behind) ∙ add_twice (at - from) (length (drop at bytes)) (length (drop from bytes)) (quoted_length behind) (omega (arith, long, left, low, high)))
-    (omega arith) (length-append (drop from bytes) behind)
+    quoted_shift (drop from bytes ++ following) following (length (drop from bytes)) 0 (length (drop from bytes))
+    (same following ∙ ap (add_length (at - from)) (is following) ∙ add_twice (at - from) (length (drop at bytes)) (length (drop from bytes)) (quoted_length following) (omega (arith, long, left, low, high)))
+    (omega arith) (length-append (drop from bytes) following)
 
 pub same_text_begin : (bytes : List ℕ) (from : ℕ) → SameText bytes from from
-same_text_begin bytes from behind =
+same_text_begin bytes from following =
     let none_yet : 0 ≡ from - from = omega arith in
-    let o = quoted_length (drop from bytes ++ behind) in
+    let o = quoted_length (drop from bytes ++ following) in
     sym (add_zero o) ∙ ap (λ (n : ℕ). add_length n o) none_yet
 
-pub same_text_on : (bytes : List ℕ) (from at next : ℕ) → from ≤ at → at ≤ next → ((behind : List ℕ) → quoted_length (drop at bytes ++ behind) ≡ add_length (next - at) (quoted_length (drop next bytes ++ behind)))
+pub same_text_on : (bytes : List ℕ) (from at next : ℕ) → from ≤ at → at ≤ next → ((following : List ℕ) → quoted_length (drop at bytes ++ following) ≡ add_length (next - at) (quoted_length (drop next bytes ++ following)))
     → SameText bytes from at → SameText bytes from next
-same_text_on bytes from at next low le is same behind =
-    same behind ∙ ap (add_length (at - from)) (is behind) ∙ add_twice (at - from) (next - at) (next - from) (quoted_length (drop next bytes ++ behind)) (omega (arith, low, le))
+same_text_on bytes from at next low le is same following =
+    same following ∙ ap (add_length (at - from)) (is following) ∙ add_twice (at - from) (next - at) (next - from) (quoted_length (drop next bytes ++ following)) (omega (arith, low, le))
 
 -- ---- what each byte makes
 

@@ -17,7 +17,7 @@ use Rattle.edn_reader.specs.declared.token.Opener.TheVariants as openers
 use Rattle.edn_reader.specs.Grammar.{ElementModel, IsToken, IsGap, nothing, skipped, discarded, IsElementAt, leaf, bracketed, tagged, IsElements, none, next, is_odd, waits, fits, is_paired, kind_of}
 use Rattle.edn_reader.specs.Text.{within, waiting, StandsOpen, outermost, opened}
 use Rattle.edn_reader.specs.Token.{lexed}
-use Rattle.edn_reader.specs.Taking.{Taken, on, ends, fails, with_one, is_tag, behind_tag, completed, plain_span, closed, taken}
+use Rattle.edn_reader.specs.Taking.{Taken, on, ends, fails, with_one, is_tag, after_tag, completed, plain_span, closed, taken}
 use Rattle.edn_reader.proofs.Lexing.{lexed_token}
 
 -- what is open and what is given after a token; none where it fails
@@ -103,7 +103,7 @@ leads_opening {p} room opener opens given token fit =
 -- what is open and what is given after an element
 unfoldable pub settled : Span → List Open → List Open × List Span
 settled span [] = ([], span ∷ [])
-settled span (item ∷ opens) = cond (is_tag item.opener) (settled (behind_tag item span) opens) (cond (waits item.opener) (opens, []) (with_one item ∷ opens, []))
+settled span (item ∷ opens) = cond (is_tag item.opener) (settled (after_tag item span) opens) (cond (waits item.opener) (opens, []) (with_one item ∷ opens, []))
 
 settles_by : (t w : Bool) (x y z : Taken) (u v m : List Open × List Span) → goes x ≡ Some u → goes y ≡ Some v → goes z ≡ Some m → goes (cond t x (cond w y z)) ≡ Some (cond t u (cond w v m))
 settles_by true w x y z u v m e f g = e
@@ -114,8 +114,8 @@ pub settles : (span : Span) (opens : List Open) → goes (completed span opens) 
 unfolding completed settled
 settles span [] = refl
 settles span (item ∷ opens) =
-    settles_by (is_tag item.opener) (waits item.opener) (completed (behind_tag item span) opens) (on opens) (on (with_one item ∷ opens)) (settled (behind_tag item span) opens) (opens, []) (with_one item ∷ opens, [])
-    (settles (behind_tag item span) opens) refl refl
+    settles_by (is_tag item.opener) (waits item.opener) (completed (after_tag item span) opens) (on opens) (on (with_one item ∷ opens)) (settled (after_tag item span) opens) (opens, []) (with_one item ∷ opens, [])
+    (settles (after_tag item span) opens) refl refl
 
 abbrev pub span_at : ElementKind → Core → ℕ → ℕ → Span
 span_at kind core p q = record { kind = kind; start = p; end = q; core = core }
@@ -257,12 +257,12 @@ leads_outermost {p = p} {q = q} {a = a} {b = b} (next {ended = over} {beyond = b
       many = omega (arith, rest.many);
     }
 
-pub leads_stands : {p : ℕ} {input a : List ℕ} {pieces : List ElementModel} {opens : List Open} → StandsOpen input pieces opens p a → Outermost 0 input [] p a opens pieces
-leads_stands (outermost els gap) =
+pub leads_present : {p : ℕ} {input a : List ℕ} {pieces : List ElementModel} {opens : List Open} → StandsOpen input pieces opens p a → Outermost 0 input [] p a opens pieces
+leads_present (outermost els gap) =
     let o = leads_outermost els [] (omega arith) in
     record { spans = o.spans; run = leads_then o.run (leads_gap gap [] o.spans (omega arith)); many = o.many }
-leads_stands (opened {room = room} {place = place} {opens = opens} {opener = opener} stands token full (within {inside = inside} bracket els gap)) =
-    let o = leads_stands stands in
+leads_present (opened {room = room} {place = place} {opens = opens} {opener = opener} present token full (within {inside = inside} bracket els gap)) =
+    let o = leads_present present in
     record {
       spans = o.spans;
       run = leads_then o.run (leads_then (leads_opening room opener opens o.spans token (omega arith))
@@ -270,8 +270,8 @@ leads_stands (opened {room = room} {place = place} {opens = opens} {opener = ope
           (leads_gap gap (record { place = place; opener = opener; odd = is_odd inside } ∷ opens) o.spans (omega arith))));
       many = o.many;
     }
-leads_stands (opened {room = room} {place = place} {opens = opens} {opener = opener} stands token full (waiting bracket gap)) =
-    let o = leads_stands stands in
+leads_present (opened {room = room} {place = place} {opens = opens} {opener = opener} present token full (waiting bracket gap)) =
+    let o = leads_present present in
     record {
       spans = o.spans;
       run = leads_then o.run (leads_then (leads_opening room opener opens o.spans token (omega arith)) (leads_gap gap (fresh place opener ∷ opens) o.spans (omega arith)));

@@ -59,21 +59,21 @@ mutual
   over_gap : {room p q r : ℕ} {a b c : List ℕ} (counts : OpenCounts) → IsGap room p a q b → 0 < counts.brackets + counts.elements → Scans counts q b r c → Scans counts p a r c
   over_gap counts nothing busy h = h
   over_gap counts (skipped token gap) busy h = over_token (lexed_token token) busy (over_gap counts gap busy h)
-  over_gap {r = r} {c = c} counts (discarded {ends = ends} {behind = behind} token inside element gap) busy h =
+  over_gap {r = r} {c = c} counts (discarded {ends = ends} {following = following} token inside element gap) busy h =
       let wanted = one_more_wanted counts.brackets counts.elements in
       let more : 0 < wanted.brackets + wanted.elements = wanted_busy counts.brackets counts.elements in
-      let after : Scans counts ends behind r c = over_gap counts gap busy h in
+      let after : Scans counts ends following r c = over_gap counts gap busy h in
       over_token (lexed_token token) busy (over_gap wanted inside more
-      (over_element wanted element more (subst (λ (k : OpenCounts). Scans k ends behind r c) (wanted_ended counts.brackets counts.elements) after)))
+      (over_element wanted element more (subst (λ (k : OpenCounts). Scans k ends following r c) (wanted_ended counts.brackets counts.elements) after)))
 
   over_element : {room p q r : ℕ} {kind : ElementKind} {core : Core} {a b c : List ℕ} (counts : OpenCounts) → IsElementAt room kind core p a q b → 0 < counts.brackets + counts.elements
       → Scans (ended_one counts) q b r c → Scans counts p a r c
   over_element counts (leaf token) busy h = over_token (lexed_token token) busy h
   over_element {r = r} {c = c} counts (bracketed {inner = inner} {left = left} {opener = opener} {bracket = bracket} token inside gap last fit even) busy h =
       let deeper : 0 < suc counts.brackets + counts.elements = omega arith in
-      let behind : Scans (counts_of (suc counts.brackets) counts.elements) inner left r c =
+      let following : Scans (counts_of (suc counts.brackets) counts.elements) inner left r c =
       over_elements counts.brackets counts.elements inside (over_gap (counts_of (suc counts.brackets) counts.elements) gap deeper (over_token (lexed_token last) deeper h)) in
-      over_token (lexed_token token) busy (subst (λ (k : OpenCounts). Scans k inner left r c) (opened_bracket opener bracket counts fit) behind)
+      over_token (lexed_token token) busy (subst (λ (k : OpenCounts). Scans k inner left r c) (opened_bracket opener bracket counts fit) following)
   over_element counts (tagged token gap element) busy h = over_token (lexed_token token) busy (over_gap counts gap busy (over_element counts element busy h))
 
   over_elements : {room p q r : ℕ} {pieces : List ElementModel} {a b c : List ℕ} (brackets elements : ℕ) → IsElements room p a pieces q b
@@ -212,18 +212,18 @@ over_discard : {room p q : ℕ} {a b : List ℕ} (bytes : List ℕ) (from end : 
 over_discard bytes from end nothing clear e here skips le = absurd (subst NoGap e clear)
 over_discard bytes from end (skipped token gap) clear e here skips le =
     let both : Opens openers.Discard ≡ Gap = sym e ∙ (lexed_token token).token_is in absurd cc
-over_discard {q = q} {a = a} {b = b} bytes from end (discarded {room = room} {inner = inner} {begins = begins} {ends = ends} {left = left} {beyond = start} {behind = behind} {kind = kind} {core = core} token inside element gap) clear e here skips le =
+over_discard {q = q} {a = a} {b = b} bytes from end (discarded {room = room} {inner = inner} {begins = begins} {ends = ends} {left = left} {beyond = start} {following = following} {kind = kind} {core = core} token inside element gap) clear e here skips le =
     let l = lexed_token token in
     let there : left ≡ drop from bytes = sym l.rest ∙ here in
-    let long : inner + end ≡ ends + from = skips room inner begins ends kind core start behind (subst (λ (x : List ℕ). IsGap room inner x begins start) there inside) element in
+    let long : inner + end ≡ ends + from = skips room inner begins ends kind core start following (subst (λ (x : List ℕ). IsGap room inner x begins start) there inside) element in
     let first : ℕ = begins - inner in
     let second : ℕ = ends - begins in
     let ordered : (inner ≤ begins) × (begins ≤ ends) = (gap_forward inside, element_forward element) in
     let left_start : drop first left ≡ start = beyond_gap first inside (omega (arith, ordered.0)) in
-    let start_behind : drop second start ≡ behind = beyond_element second element (omega (arith, ordered.1)) in
-    let whole : drop end bytes ≡ behind =
+    let start_after : drop second start ≡ following = beyond_element second element (omega (arith, ordered.1)) in
+    let whole : drop end bytes ≡ following =
     sym (between bytes left from end (first + second) there (omega (arith, long, ordered.0, ordered.1, le)))
-    ∙ sym (drop-drop second first left) ∙ ap (drop second) left_start ∙ start_behind in
+    ∙ sym (drop-drop second first left) ∙ ap (drop second) left_start ∙ start_after in
     (suc room, ends, omega (arith, long, l.place), subst (λ (x : List ℕ). IsGap (suc room) ends x q b) (sym whole) gap)
 
 stop_gap : {room p q : ℕ} {a b : List ℕ} → IsGap room p a q b → ((lexed a).0 ≡ Gap → ⊥) → ((lexed a).0 ≡ Opens openers.Discard → ⊥) → p ≡ q
@@ -295,14 +295,14 @@ element_kind (tagged token gap element) = ap kind_token (lexed_token token).toke
 abbrev pub TagsLeft : List ℕ → ℕ → ℕ → Type 0
 TagsLeft bytes from at =
     (room start after : ℕ) (kind : ElementKind) (core : Core) (rest : List ℕ) → IsElementAt room kind core start (drop from bytes) after rest
-    → (other place : ℕ) × (behind : ElementKind) × (place + from ≡ start + at) × IsElementAt other behind core place (drop at bytes) after rest
+    → (other place : ℕ) × (following : ElementKind) × (place + from ≡ start + at) × IsElementAt other following core place (drop at bytes) after rest
 
 not_tag : (opener : Opener) (bracket : Bracket) → fits opener bracket ≡ true → opener ≢ openers.Tag
 not_tag opener bracket fit e = let both : fits openers.Tag bracket ≡ true = subst (λ (o : Opener). fits o bracket ≡ true) e fit in absurd cc
 
 over_tag : {room p q : ℕ} {kind : ElementKind} {core : Core} {a b : List ℕ} (bytes : List ℕ) (from end : ℕ) → IsElementAt room kind core p a q b → (lexed a).0 ≡ Opens openers.Tag
     → drop (lexed a).1 a ≡ drop from bytes → SkipsGap bytes from end → from ≤ end
-    → (other place : ℕ) × (behind : ElementKind) × (place + from ≡ p + (lexed a).1 + end) × IsElementAt other behind core place (drop end bytes) q b
+    → (other place : ℕ) × (following : ElementKind) × (place + from ≡ p + (lexed a).1 + end) × IsElementAt other following core place (drop end bytes) q b
 over_tag bytes from end (leaf {kind = kind} token) e here skips le =
     let both : Opens openers.Tag ≡ Leaf kind = sym e ∙ (lexed_token token).token_is in absurd cc
 over_tag bytes from end (bracketed {opener = opener} {bracket = bracket} token inside gap last fit even) e here skips le =
@@ -339,11 +339,11 @@ skips_tags bytes from at left other room start after kind core rest element =
 -- ---- tokens that are met
 
 -- the token that was looked at is the one at the index
-pub stands_token : (bytes : List ℕ) (front : Lookahead) (at : ℕ) → HasToken bytes front → front.at ≡ at → (lexed (drop at bytes)).0 ≡ front.found.token
-stands_token bytes front at s e = ap (λ (n : ℕ). (lexed (drop n bytes)).0) (sym e) ∙ sym (ap (λ (f : Found). f.token) s.found)
+pub present_token : (bytes : List ℕ) (front : Lookahead) (at : ℕ) → HasToken bytes front → front.at ≡ at → (lexed (drop at bytes)).0 ≡ front.found.token
+present_token bytes front at s e = ap (λ (n : ℕ). (lexed (drop n bytes)).0) (sym e) ∙ sym (ap (λ (f : Found). f.token) s.found)
 
-pub stands_end : (bytes : List ℕ) (front : Lookahead) (at : ℕ) → HasToken bytes front → front.at ≡ at → front.found.end ≡ at + (lexed (drop at bytes)).1
-stands_end bytes front at s e = ap (λ (f : Found). f.end) s.found ∙ ap (λ (n : ℕ). n + (lexed (drop n bytes)).1) e
+pub present_end : (bytes : List ℕ) (front : Lookahead) (at : ℕ) → HasToken bytes front → front.at ≡ at → front.found.end ≡ at + (lexed (drop at bytes)).1
+present_end bytes front at s e = ap (λ (f : Found). f.end) s.found ∙ ap (λ (n : ℕ). n + (lexed (drop n bytes)).1) e
 
 -- at the end of the bytes there is no element to go over
 pub skips_nothing : (bytes : List ℕ) (from : ℕ) → length bytes ≤ from → SkipsElement bytes from from
@@ -353,7 +353,7 @@ skips_nothing bytes from le = skips_element bytes from from (counts_of 0 1) (λ 
 pub gap_met : (bytes : List ℕ) (from at : ℕ) (front : Lookahead) → GapLeft bytes from at → HasToken bytes front → front.at ≡ at
     → (front.found.token ≡ Gap → ⊥) → (front.found.token ≡ Opens openers.Discard → ⊥) → SkipsGap bytes from front.at
 gap_met bytes from at front left s e white discard =
-    let token = stands_token bytes front at s e in
+    let token = present_token bytes front at s e in
     subst (SkipsGap bytes from) (sym e) (skips_gap bytes from at left (λ f. white (sym token ∙ f)) (λ f. discard (sym token ∙ f)))
 
 -- a gap ends at the end of the bytes too
@@ -379,7 +379,7 @@ tag_is Unfinished e = absurd cc
 pub leaf_core : (bytes : List ℕ) (front : Lookahead) (kind : ElementKind) → HasToken bytes front → front.found.token ≡ Leaf kind → SkipsTags bytes front.at front.at
 leaf_core bytes front kind s is =
     skips_tags bytes front.at front.at (λ room start after k core rest h. (room, start, k, refl, h))
-    (λ e. let both : Leaf kind ≡ Opens openers.Tag = sym is ∙ sym (stands_token bytes front front.at s refl) ∙ e in absurd cc)
+    (λ e. let both : Leaf kind ≡ Opens openers.Tag = sym is ∙ sym (present_token bytes front front.at s refl) ∙ e in absurd cc)
 
 -- an element that is one token ends where the token does
 pub leaf_end : (bytes : List ℕ) (front : Lookahead) (kind : ElementKind) → HasToken bytes front → front.found.token ≡ Leaf kind → SkipsElement bytes front.at front.found.end
@@ -391,13 +391,13 @@ leaf_end bytes front kind s is =
 pub tags_on : (bytes : List ℕ) (from end : ℕ) (front : Lookahead) → TagsLeft bytes from front.at → HasToken bytes front → is_tag_token front.found.token ≡ true
     → SkipsGap bytes front.found.end end → front.found.end ≤ end → TagsLeft bytes from end
 tags_on bytes from end front left s t skips le =
-    tags_tag bytes from front.at front.found.end end left (stands_token bytes front front.at s refl ∙ tag_is front.found.token t) (stands_end bytes front front.at s refl) skips le
+    tags_tag bytes from front.at front.found.end end left (present_token bytes front front.at s refl ∙ tag_is front.found.token t) (present_end bytes front front.at s refl) skips le
 
 -- the tags end at a token that is not of a tag
 pub tags_met : (bytes : List ℕ) (from : ℕ) (front : Lookahead) → TagsLeft bytes from front.at → HasToken bytes front → is_tag_token front.found.token ≡ false → SkipsTags bytes from front.at
 tags_met bytes from front left s t =
     skips_tags bytes from front.at left
-    (λ e. let both : false ≡ true = sym t ∙ ap is_tag_token (sym (stands_token bytes front front.at s refl) ∙ e) in absurd cc)
+    (λ e. let both : false ≡ true = sym t ∙ ap is_tag_token (sym (present_token bytes front front.at s refl) ∙ e) in absurd cc)
 
 -- the tags end at the end of the bytes too
 pub tags_at_end : (bytes : List ℕ) (from : ℕ) → TagsLeft bytes from (length bytes) → SkipsTags bytes from (length bytes)

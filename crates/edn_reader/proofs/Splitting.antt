@@ -32,12 +32,12 @@ use Rattle.edn_reader.specs.Splitting.{SplitterModel, keep, IsAfter, StandsAfter
 use Rattle.edn_reader.proofs.Stretches.{drop_before}
 use Rattle.edn_reader.proofs.Lexing.{token_lexed, finishing}
 use Rattle.edn_reader.proofs.Resuming.{resumed_last}
-use Rattle.edn_reader.proofs.Steps.{stands_gap, stands_opened}
+use Rattle.edn_reader.proofs.Steps.{present_gap, present_opened}
 use Rattle.edn_reader.proofs.Runs.{span_at}
-use Rattle.edn_reader.proofs.Ended.{stands_end, stands_left, stands_room}
-use Rattle.edn_reader.proofs.Viable.{viable, stands_after, viable_finished}
+use Rattle.edn_reader.proofs.Ended.{present_end, present_left, present_room}
+use Rattle.edn_reader.proofs.Viable.{viable, present_after, viable_finished}
 use Rattle.edn_reader.proofs.Reading.{StandsAt, full_fails}
-use Rattle.edn_reader.proofs.Keeping.{rising_stands, rising_up, outer_up, outer_low, token_low, token_high}
+use Rattle.edn_reader.proofs.Keeping.{rising_present, rising_up, outer_up, outer_low, token_low, token_high}
 use Rattle.edn_reader.proofs.Within.{no_memory, nothing_makes, token_of}
 
 -- ---- places of joined bytes
@@ -52,12 +52,12 @@ piece_at bytes piece next more input e =
     (omega (arith, ap length f, length-append bytes (piece ++ (next ++ more))), ap (drop (length bytes)) f ∙ drop-append_seam bytes (piece ++ (next ++ more)))
 
 -- after the whole chunk
-behind_all : (bytes piece next more input : List ℕ) → input ≡ (bytes ++ piece) ++ (next ++ more) → input ≡ bytes ++ ((piece ++ next) ++ more)
-behind_all bytes piece next more input e = e ∙ append_assoc bytes piece (next ++ more) ∙ ap (λ (xs : List ℕ). bytes ++ xs) (sym (append_assoc piece next more))
+following_all : (bytes piece next more input : List ℕ) → input ≡ (bytes ++ piece) ++ (next ++ more) → input ≡ bytes ++ ((piece ++ next) ++ more)
+following_all bytes piece next more input e = e ∙ append_assoc bytes piece (next ++ more) ∙ ap (λ (xs : List ℕ). bytes ++ xs) (sym (append_assoc piece next more))
 
 -- after so many bytes of the chunk
-behind_used : (bytes piece next more input : List ℕ) (used : ℕ) → input ≡ (bytes ++ take used piece) ++ ((drop used piece ++ next) ++ more) → input ≡ bytes ++ ((piece ++ next) ++ more)
-behind_used bytes piece next more input used e =
+after_used : (bytes piece next more input : List ℕ) (used : ℕ) → input ≡ (bytes ++ take used piece) ++ ((drop used piece ++ next) ++ more) → input ≡ bytes ++ ((piece ++ next) ++ more)
+after_used bytes piece next more input used e =
     e ∙ append_assoc bytes (take used piece) ((drop used piece ++ next) ++ more)
     ∙ ap (λ (xs : List ℕ). bytes ++ xs)
     (ap (λ (xs : List ℕ). take used piece ++ xs) (append_assoc (drop used piece) next more) ∙ sym (append_assoc (take used piece) (drop used piece) (next ++ more))
@@ -73,9 +73,9 @@ piece_front xs ys span low high =
 
 -- ---- where nothing has begun
 
-stands_anew : (input : List ℕ) (at end : ℕ) (pieces : List ElementModel) (opens : List Open) → at ≡ end → StandsAt input pieces opens at → StandsWithin input end pieces opens (record { start = at; part = parts.Nothing })
-stands_anew input at end pieces opens same s =
-    record { low = omega (arith, same); stands = s; makes = λ more. nothing_makes (end - at) (drop at input) more (omega (arith, same)) }
+present_anew : (input : List ℕ) (at end : ℕ) (pieces : List ElementModel) (opens : List Open) → at ≡ end → StandsAt input pieces opens at → StandsWithin input end pieces opens (record { start = at; part = parts.Nothing })
+present_anew input at end pieces opens same s =
+    record { low = omega (arith, same); present = s; makes = λ more. nothing_makes (end - at) (drop at input) more (omega (arith, same)) }
 
 none_open : {input : List ℕ} {at : ℕ} {pieces : List ElementModel} (opens : List Open) → opens ≡ [] → StandsAt input pieces [] at → StandsAt input pieces opens at
 none_open {input} {at} {pieces} opens empty s = subst (λ (o : List Open). StandsAt input pieces o at) (sym empty) s
@@ -84,7 +84,7 @@ none_full : (opens : List Open) (at : ℕ) → IsFull false (record { start = at
 none_full opens at opener e = absurd cc
 
 pub after_nothing : (next : List ℕ) (ended : Span) → StandsAfter [] next [] (record { taken = 0; begun = record { start = 0; part = parts.Nothing }; opens = []; fault = None; ended = ended })
-after_nothing next ended input more e = record { no_fault = refl; taken = refl; stands = stands_anew input 0 0 [] [] refl (outermost none nothing); not_full = none_full [] 0 }
+after_nothing next ended input more e = record { no_fault = refl; taken = refl; present = present_anew input 0 0 [] [] refl (outermost none nothing); not_full = none_full [] 0 }
 
 -- ---- what is kept
 
@@ -92,10 +92,10 @@ after_nothing next ended input more e = record { no_fault = refl; taken = refl; 
 keep_low : {bytes input : List ℕ} {pieces : List ElementModel} (old : SplitterModel) → IsAfter bytes input pieces old → keep old ≤ kept_token (last old.begun.part) old.begun.start old.taken
 keep_low old s =
     let from = kept_token (last old.begun.part) old.begun.start old.taken in
-    outer_low old.opens from (rising_up old.opens old.begun.start from (token_low (last old.begun.part) old.begun.start old.taken (omega (arith, s.stands.low, s.taken))) (rising_stands s.stands.stands))
+    outer_low old.opens from (rising_up old.opens old.begun.start from (token_low (last old.begun.part) old.begun.start old.taken (omega (arith, s.present.low, s.taken))) (rising_present s.present.present))
 
 keep_high : {bytes input : List ℕ} {pieces : List ElementModel} (old : SplitterModel) → IsAfter bytes input pieces old → keep old ≤ old.taken
-keep_high old s = omega (arith, keep_low old s, token_high (last old.begun.part) old.begun.start old.taken (omega (arith, s.stands.low, s.taken)))
+keep_high old s = omega (arith, keep_low old s, token_high (last old.begun.part) old.begun.start old.taken (omega (arith, s.present.low, s.taken)))
 
 keeps_more : (keep place : ℕ) (after : List Open) → keep ≤ place → keep ≤ outer after keep → keep ≤ outer after place
 keeps_more keep place after le is = omega (arith, outer_up after keep place le, is)
@@ -126,10 +126,10 @@ is_wanted (faults.TagWithoutElement at) place e = absurd cc
 read_at : (piece : List ℕ) (old : SplitterModel) (result : Result Reached EdnFault) (after : List Open) → ReadsPiece piece old.taken old.begun old.opens result after
     → (bytes next : List ℕ) (pieces : List ElementModel) → StandsAfter bytes (piece ++ next) pieces old → (input more : List ℕ) → input ≡ bytes ++ ((piece ++ next) ++ more)
     → Reaches input (old.taken + length piece) pieces (keep old) result after
-read_at piece old result after reads bytes next pieces stands input more e =
-    let s = stands input more e in
+read_at piece old result after reads bytes next pieces present input more e =
+    let s = present input more e in
     reads input (next ++ more) pieces (subst (λ (n : ℕ). IsPieceAt input n piece (next ++ more)) (sym s.taken) (piece_at bytes piece next more input e))
-    (subst (λ (n : ℕ). StandsWithin input n pieces old.opens old.begun) (sym s.taken) s.stands)
+    (subst (λ (n : ℕ). StandsWithin input n pieces old.opens old.begun) (sym s.taken) s.present)
 
 -- one input that goes on so
 abbrev some_input : List ℕ → List ℕ → List ℕ → List ℕ
@@ -137,24 +137,24 @@ some_input bytes piece next = bytes ++ ((piece ++ next) ++ [])
 
 pub takes_within : (piece : List ℕ) (old : SplitterModel) (later : Begun) (after : List Open) → IsFull false later after → ReadsPiece piece old.taken old.begun old.opens (Ok (Within later)) after
     → TakesOn piece old (Ok (record { used = length piece; whole = None })) (record { taken = old.taken + length piece; begun = later; opens = after; fault = old.fault; ended = old.ended })
-takes_within piece old later after few reads bytes next pieces stands =
-    let known = read_at piece old (Ok (Within later)) after reads bytes next pieces stands in (
+takes_within piece old later after few reads bytes next pieces present =
+    let known = read_at piece old (Ok (Within later)) after reads bytes next pieces present in (
       refl,
       (λ input more e.
-          let f = behind_all bytes piece next more input e in
-          let s = stands input more f in
+          let f = following_all bytes piece next more input e in
+          let s = present input more f in
           let long : old.taken + length piece ≡ length (bytes ++ piece) = omega (arith, s.taken, length-append bytes piece) in
-          record { no_fault = s.no_fault; taken = long; stands = subst (λ (n : ℕ). StandsWithin input n pieces after later) long (known input more f).0; not_full = few }),
+          record { no_fault = s.no_fault; taken = long; present = subst (λ (n : ℕ). StandsWithin input n pieces after later) long (known input more f).0; not_full = few }),
       (known (some_input bytes piece next) [] refl).1,
     )
 
 -- a fault of the input is kept
 pub takes_fault : (piece : List ℕ) (old : SplitterModel) (fault : EdnFault) (after : List Open) → wanted_at fault ≡ None → ReadsPiece piece old.taken old.begun old.opens (Err fault) after
     → TakesOn piece old (Err fault) (record { taken = old.taken; begun = old.begun; opens = after; fault = Some fault; ended = old.ended })
-takes_fault piece old fault after met reads bytes next pieces stands =
+takes_fault piece old fault after met reads bytes next pieces present =
     let new : SplitterModel = record { taken = old.taken; begun = old.begun; opens = after; fault = Some fault; ended = old.ended } in
-    let known = read_at piece old (Err fault) after reads bytes next pieces stands in
-    let first = stands (some_input bytes piece next) [] refl in (
+    let known = read_at piece old (Err fault) after reads bytes next pieces present in
+    let first = present (some_input bytes piece next) [] refl in (
       keeps_more (keep old) (kept_token (last old.begun.part) old.begun.start old.taken) after (keep_low old first) (known (some_input bytes piece next) [] refl).2,
       subst (λ (o : Option ℕ). MatchOption o (KeepsFault bytes (piece ++ next) pieces fault new) (λ place. WantsMemory bytes piece next pieces place new)) (sym met)
           (refl, λ input more e. fault_met input pieces fault met (known input more e).0),
@@ -164,9 +164,9 @@ takes_fault piece old fault after met reads bytes next pieces stands =
 pub takes_before : (piece : List ℕ) (old : SplitterModel) (place : ℕ) (after : List Open) → place < old.taken → WantsInPiece old.taken (length piece) old.begun.start old.opens (faults.Memory place) after
     → ReadsPiece piece old.taken old.begun old.opens (Err (faults.Memory place)) after
     → TakesOn piece old (Err (faults.Memory old.taken)) (record { taken = old.taken; begun = old.begun; opens = after; fault = old.fault; ended = old.ended })
-takes_before piece old place after lt (some, before) reads bytes next pieces stands =
-    let known = read_at piece old (Err (faults.Memory place)) after reads bytes next pieces stands in
-    let first = stands (some_input bytes piece next) [] refl in
+takes_before piece old place after lt (some, before) reads bytes next pieces present =
+    let known = read_at piece old (Err (faults.Memory place)) after reads bytes next pieces present in
+    let first = present (some_input bytes piece next) [] refl in
     let used = old.taken - length bytes in
     let size : used ≤ length piece = omega (arith, first.taken) in
     subst (λ (opens : List Open). Takes bytes piece next pieces old (Err (faults.Memory old.taken)) (record { taken = old.taken; begun = old.begun; opens = opens; fault = old.fault; ended = old.ended })) (sym (before lt).1) (
@@ -176,9 +176,9 @@ takes_before piece old place after lt (some, before) reads bytes next pieces sta
         omega (arith, first.taken, some),
         refl,
         (λ input more e.
-            let s = stands input more (behind_used bytes piece next more input used e) in
+            let s = present input more (after_used bytes piece next more input used e) in
             let long : old.taken ≡ length (bytes ++ take used piece) = omega (arith, s.taken, length-append bytes (take used piece), length-take-le used piece size) in
-            record { no_fault = s.no_fault; taken = long; stands = subst (λ (n : ℕ). StandsWithin input n pieces old.opens old.begun) (sym s.taken ∙ long) s.stands; not_full = s.not_full }),
+            record { no_fault = s.no_fault; taken = long; present = subst (λ (n : ℕ). StandsWithin input n pieces old.opens old.begun) (sym s.taken ∙ long) s.present; not_full = s.not_full }),
         (λ input more e. subst (CanWantMemory input pieces) (before lt).0 (known input more e).0.1),
       ),
     )
@@ -186,10 +186,10 @@ takes_before piece old place after lt (some, before) reads bytes next pieces sta
 -- memory was refused at a byte of the chunk: nothing has begun there then
 pub takes_there : (piece : List ℕ) (old : SplitterModel) (place : ℕ) (after : List Open) → old.taken ≤ place → ReadsPiece piece old.taken old.begun old.opens (Err (faults.Memory place)) after
     → TakesOn piece old (Err (faults.Memory place)) (record { taken = place; begun = record { start = place; part = parts.Nothing }; opens = after; fault = old.fault; ended = old.ended })
-takes_there piece old place after le reads bytes next pieces stands =
-    let known = read_at piece old (Err (faults.Memory place)) after reads bytes next pieces stands in
+takes_there piece old place after le reads bytes next pieces present =
+    let known = read_at piece old (Err (faults.Memory place)) after reads bytes next pieces present in
     let one = known (some_input bytes piece next) [] refl in
-    let first = stands (some_input bytes piece next) [] refl in
+    let first = present (some_input bytes piece next) [] refl in
     let used = place - length bytes in
     let size : used ≤ length piece = omega (arith, first.taken, one.1.0) in (
       keeps_more (keep old) place after (omega (arith, keep_high old first, le)) one.2,
@@ -198,10 +198,10 @@ takes_there piece old place after le reads bytes next pieces stands =
         omega (arith, first.taken, one.1.0),
         refl,
         (λ input more e.
-            let f = behind_used bytes piece next more input used e in
-            let s = stands input more f in
+            let f = after_used bytes piece next more input used e in
+            let s = present input more f in
             let long : place ≡ length (bytes ++ take used piece) = omega (arith, s.taken, le, length-append bytes (take used piece), length-take-le used piece size) in
-            record { no_fault = s.no_fault; taken = long; stands = stands_anew input place (length (bytes ++ take used piece)) pieces after long (known input more f).1.1; not_full = none_full after place }),
+            record { no_fault = s.no_fault; taken = long; present = present_anew input place (length (bytes ++ take used piece)) pieces after long (known input more f).1.1; not_full = none_full after place }),
         (λ input more e. (known input more e).0.1),
       ),
     )
@@ -215,27 +215,27 @@ opens_stays parts.Escape opener rest e = absurd cc
 opens_stays parts.Hash opener rest e = absurd cc
 opens_stays parts.Backslash opener rest e = absurd cc
 
-full_behind : (input : List ℕ) (end : ℕ) (pieces : List ElementModel) (later : Begun) (after : List Open) → IsFull true later after → StandsWithin input end pieces after later
+full_after : (input : List ℕ) (end : ℕ) (pieces : List ElementModel) (later : Begun) (after : List Open) → IsFull true later after → StandsWithin input end pieces after later
     → FaultOf input (faults.TooDeep later.start) × AreElementsBefore input pieces
-full_behind input end pieces later after full w =
+full_after input end pieces later after full w =
     let is = ap (λ (x : _ × ℕ). x.0) (token_of w) ∙ opens_stays later.part full.0.0 (drop end input) full.0.1 in
-    full_fails input pieces later.start full.0.0 after w.stands is full.1
+    full_fails input pieces later.start full.0.0 after w.present is full.1
 
 pub takes_full : (piece : List ℕ) (old : SplitterModel) (later : Begun) (after : List Open) → IsFull true later after → ReadsPiece piece old.taken old.begun old.opens (Ok (Within later)) after
     → TakesOn piece old (Err (faults.TooDeep later.start))
     (record { taken = old.taken + length piece; begun = later; opens = after; fault = Some (faults.TooDeep later.start); ended = old.ended })
-takes_full piece old later after full reads bytes next pieces stands =
-    let known = read_at piece old (Ok (Within later)) after reads bytes next pieces stands in
-    ((known (some_input bytes piece next) [] refl).1, (refl, λ input more e. full_behind input (old.taken + length piece) pieces later after full (known input more e).0))
+takes_full piece old later after full reads bytes next pieces present =
+    let known = read_at piece old (Ok (Within later)) after reads bytes next pieces present in
+    ((known (some_input bytes piece next) [] refl).1, (refl, λ input more e. full_after input (old.taken + length piece) pieces later after full (known input more e).0))
 
 pub takes_element : (piece : List ℕ) (old : SplitterModel) (span : Span) (after : List Open) → ReadsPiece piece old.taken old.begun old.opens (Ok (Ended span)) after
     → EndsBetween old.taken (old.taken + length piece) (Ended span) after
     → TakesOn piece old (Ok (record { used = span.end - old.taken; whole = Some (span.start, span.end) }))
     (record { taken = span.end; begun = record { start = span.end; part = parts.Nothing }; opens = after; fault = old.fault; ended = span })
-takes_element piece old span after reads (empty, low, high) bytes next pieces stands =
-    let known = read_at piece old (Ok (Ended span)) after reads bytes next pieces stands in
+takes_element piece old span after reads (empty, low, high) bytes next pieces present =
+    let known = read_at piece old (Ok (Ended span)) after reads bytes next pieces present in
     let one = known (some_input bytes piece next) [] refl in
-    let first = stands (some_input bytes piece next) [] refl in
+    let first = present (some_input bytes piece next) [] refl in
     let used = span.end - old.taken in
     let size : used ≤ length piece = omega (arith, low, high) in
     let place : span.end ≡ length bytes + used = omega (arith, low, first.taken) in
@@ -255,10 +255,10 @@ takes_element piece old span after reads (empty, low, high) bytes next pieces st
         piece_in (bytes ++ piece) span,
         (refl, begins, refl),
         (λ input more e.
-            let f = behind_used bytes piece next more input used e in
-            let s = stands input more f in
+            let f = after_used bytes piece next more input used e in
+            let s = present input more f in
             let long : span.end ≡ length (bytes ++ take used piece) = omega (arith, place, length-append bytes (take used piece), length-take-le used piece size) in
-            record { no_fault = s.no_fault; taken = long; stands = stands_anew input span.end (length (bytes ++ take used piece)) (pieces ++ piece_in (bytes ++ piece) span ∷ []) after long (none_open after empty (outermost (front input more f) nothing)); not_full = none_full after span.end }),
+            record { no_fault = s.no_fault; taken = long; present = present_anew input span.end (length (bytes ++ take used piece)) (pieces ++ piece_in (bytes ++ piece) span ∷ []) after long (none_open after empty (outermost (front input more f) nothing)); not_full = none_full after span.end }),
         front,
         (refl, refl, refl),
       ),
@@ -270,7 +270,7 @@ takes_element piece old span after reads (empty, low, high) bytes next pieces st
 end_at : (old : SplitterModel) (result : Result (Option Span) EdnFault) (after : List Open) → ReadsEnd old.taken old.begun old.opens result after → (input : List ℕ) (pieces : List ElementModel)
     → IsAfter input input pieces old → Concludes input pieces (keep old) result after
 end_at old result after reads input pieces s =
-    reads input pieces (sym s.taken) (subst (λ (n : ℕ). StandsWithin input n pieces old.opens old.begun) (sym s.taken) s.stands)
+    reads input pieces (sym s.taken) (subst (λ (n : ℕ). StandsWithin input n pieces old.opens old.begun) (sym s.taken) s.present)
 
 pub ends_element : (old : SplitterModel) (span : Span) (after : List Open) → ReadsEnd old.taken old.begun old.opens (Ok (Some span)) after → EndsAt old.begun.start old.taken (Some span) after
     → EndsOn old (Ok (Some (span.start, span.end))) (record { taken = old.taken; begun = record { start = old.taken; part = parts.Nothing }; opens = after; fault = old.fault; ended = span })
@@ -284,24 +284,24 @@ ends_element old span after reads (empty, some, place) input pieces s =
         piece_in input span,
         (refl, omega (arith, known.0.0, known.0.1), refl),
         known.1,
-        record { no_fault = s.no_fault; taken = s.taken; stands = stands_anew input old.taken (length input) (pieces ++ piece_in input span ∷ []) after s.taken (none_open after empty (outermost front nothing)); not_full = none_full after old.taken },
+        record { no_fault = s.no_fault; taken = s.taken; present = present_anew input old.taken (length input) (pieces ++ piece_in input span ∷ []) after s.taken (none_open after empty (outermost front nothing)); not_full = none_full after old.taken },
         (refl, refl, refl),
       ),
     )
 
 -- a text ends with nothing open
-text_stands : (input : List ℕ) (pieces : List ElementModel) (at : ℕ) → at ≡ length input → IsText input pieces → StandsAt input pieces [] at
-text_stands input pieces at same (begins, after, front, gap) =
+text_present : (input : List ℕ) (pieces : List ElementModel) (at : ℕ) → at ≡ length input → IsText input pieces → StandsAt input pieces [] at
+text_present input pieces at same (begins, after, front, gap) =
     let here : StandsOpen input pieces [] after [] = outermost front gap in
-    let place : after ≡ at = omega (arith, stands_end here, same) in
-    subst (StandsAt input pieces []) place (subst (λ (rest : List ℕ). StandsOpen input pieces [] after rest) (stands_left here) here)
+    let place : after ≡ at = omega (arith, present_end here, same) in
+    subst (StandsAt input pieces []) place (subst (λ (rest : List ℕ). StandsOpen input pieces [] after rest) (present_left here) here)
 
 pub ends_text : (old : SplitterModel) (after : List Open) → ReadsEnd old.taken old.begun old.opens (Ok None) after → after ≡ []
     → EndsOn old (Ok None) (record { taken = old.taken; begun = record { start = old.taken; part = parts.Nothing }; opens = after; fault = old.fault; ended = old.ended })
 ends_text old after reads empty input pieces s =
     let text = end_at old (Ok None) after reads input pieces s in (
       text,
-      record { no_fault = s.no_fault; taken = s.taken; stands = stands_anew input old.taken (length input) pieces after s.taken (none_open after empty (text_stands input pieces old.taken s.taken text)); not_full = none_full after old.taken },
+      record { no_fault = s.no_fault; taken = s.taken; present = present_anew input old.taken (length input) pieces after s.taken (none_open after empty (text_present input pieces old.taken s.taken text)); not_full = none_full after old.taken },
       omega (arith, keep_high old s, ap (λ (o : List Open). outer o old.taken) empty),
     )
 
@@ -322,12 +322,9 @@ ends_fault old fault after met reads input pieces s =
 
 -- `StandsAfter` holds of no splitter that met a fault
 pub takes_never : (piece : List ℕ) (old new : SplitterModel) (result : Result Taken EdnFault) (fault : EdnFault) → old.fault ≡ Some fault → TakesOn piece old result new
-takes_never piece old new result fault e bytes next pieces stands =
-    let s = stands (some_input bytes piece next) [] refl in
+takes_never piece old new result fault e bytes next pieces present =
+    let s = present (some_input bytes piece next) [] refl in
     let both : Some fault ≡ None = sym e ∙ s.no_fault in absurd cc
-
-pub ends_never : (old new : SplitterModel) (result : Result (Option (ℕ × ℕ)) EdnFault) (fault : EdnFault) → old.fault ≡ Some fault → EndsOn old result new
-ends_never old new result fault e input pieces s = let both : Some fault ≡ None = sym e ∙ s.no_fault in absurd cc
 
 -- ---- what can go on
 
@@ -341,15 +338,15 @@ token_viable : (token : Token) (input : List ℕ) (pieces : List ElementModel) (
     → start + (lexed (drop start input)).1 ≡ length input → ((opener : Opener) → token ≡ tokens.Opens opener → length opens ≢ 64) → ((bracket : Bracket) → token ≡ tokens.Closes bracket → ⊥) → IsViable input
 token_viable tokens.Gap input pieces opens start s lt is long few never =
     let a = drop start input in
-    whole_viable (start + (lexed a).1) long (stands_gap s (λ room fit. skipped (token_lexed start a tokens.Gap is (λ h. cc)) nothing))
+    whole_viable (start + (lexed a).1) long (present_gap s (λ room fit. skipped (token_lexed start a tokens.Gap is (λ h. cc)) nothing))
 token_viable (tokens.Leaf kind) input pieces opens start s lt is long few never =
     let a = drop start input in
     let span = span_at kind (record { kind = kind; start = start }) start (start + (lexed a).1) in
-    whole_viable (start + (lexed a).1) long (stands_after opens span s (λ room fit. leaf (token_lexed start a (tokens.Leaf kind) is (λ h. cc)))).1
+    whole_viable (start + (lexed a).1) long (present_after opens span s (λ room fit. leaf (token_lexed start a (tokens.Leaf kind) is (λ h. cc)))).1
 token_viable (tokens.Opens opener) input pieces opens start s lt is long few never =
     let a = drop start input in
-    let most = stands_room opens s in
-    whole_viable (start + (lexed a).1) long (stands_opened opener (waits opener) refl s (token_lexed start a (tokens.Opens opener) is (λ h. cc)) (omega (arith, most, few opener refl)))
+    let most = present_room opens s in
+    whole_viable (start + (lexed a).1) long (present_opened opener (waits opener) refl s (token_lexed start a (tokens.Opens opener) is (λ h. cc)) (omega (arith, most, few opener refl)))
 token_viable (tokens.Closes bracket) input pieces opens start s lt is long few never = absurd (never bracket refl)
 token_viable tokens.Unfinished input pieces opens start s lt is long few never =
     let some : 0 < length (drop start input) = omega (arith, length-drop start input, lt) in
@@ -388,28 +385,28 @@ unfolding stretch
 no_letter = refl
 
 never_closes : (bytes : List ℕ) (pieces : List ElementModel) (splitting : SplitterModel) → StandsAfter bytes [] pieces splitting → (bracket : Bracket) → last splitting.begun.part ≡ tokens.Closes bracket → ⊥
-never_closes bytes pieces splitting stands bracket e =
-    let one = closes_long bytes (length bytes) pieces splitting.opens splitting.begun bracket [] (stands bytes [] (sym (append-nil bytes))).stands e (drop_of_length-le bytes (omega arith)) in
-    let two = closes_long (bytes ++ 97 ∷ []) (length bytes) pieces splitting.opens splitting.begun bracket (97 ∷ []) (stands (bytes ++ 97 ∷ []) (97 ∷ []) refl).stands e
+never_closes bytes pieces splitting present bracket e =
+    let one = closes_long bytes (length bytes) pieces splitting.opens splitting.begun bracket [] (present bytes [] (sym (append-nil bytes))).present e (drop_of_length-le bytes (omega arith)) in
+    let two = closes_long (bytes ++ 97 ∷ []) (length bytes) pieces splitting.opens splitting.begun bracket (97 ∷ []) (present (bytes ++ 97 ∷ []) (97 ∷ []) refl).present e
     (drop-append_seam bytes (97 ∷ [])) in
     omega (arith, one, two, letter_run, no_letter)
 
 pub viable_so_far : (bytes : List ℕ) (pieces : List ElementModel) (splitting : SplitterModel) → StandsAfter bytes [] pieces splitting → IsViable bytes
-viable_so_far bytes pieces splitting stands = viable_by (cases_lt splitting.begun.start (length bytes)) where
+viable_so_far bytes pieces splitting present = viable_by (cases_lt splitting.begun.start (length bytes)) where
   after : IsAfter bytes bytes pieces splitting
-  after = stands bytes [] (sym (append-nil bytes))
+  after = present bytes [] (sym (append-nil bytes))
 
   rest : drop (length bytes) bytes ≡ []
   rest = drop_of_length-le bytes (omega arith)
 
   made : lexed (drop splitting.begun.start bytes) ≡ (last splitting.begun.part, length bytes - splitting.begun.start + 0)
-  made = token_of after.stands ∙ ap (longer (length bytes - splitting.begun.start)) (ap (resumed splitting.begun.part) rest ∙ resumed_last splitting.begun.part)
+  made = token_of after.present ∙ ap (longer (length bytes - splitting.begun.start)) (ap (resumed splitting.begun.part) rest ∙ resumed_last splitting.begun.part)
 
   viable_by : (splitting.begun.start < length bytes) ⊎ (length bytes ≤ splitting.begun.start) → IsViable bytes
   viable_by (inl lt) =
-      token_viable (last splitting.begun.part) bytes pieces splitting.opens splitting.begun.start after.stands.stands lt (ap (λ (x : Token × ℕ). x.0) made)
-      (omega (arith, lt, ap (λ (x : Token × ℕ). x.1) made)) after.not_full (never_closes bytes pieces splitting stands)
-  viable_by (inr le) = whole_viable splitting.begun.start (omega (arith, le, after.stands.low)) after.stands.stands
+      token_viable (last splitting.begun.part) bytes pieces splitting.opens splitting.begun.start after.present.present lt (ap (λ (x : Token × ℕ). x.0) made)
+      (omega (arith, lt, ap (λ (x : Token × ℕ). x.1) made)) after.not_full (never_closes bytes pieces splitting present)
+  viable_by (inr le) = whole_viable splitting.begun.start (omega (arith, le, after.present.low)) after.present.present
 
 -- ---- the outermost thing open
 

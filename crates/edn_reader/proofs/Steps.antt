@@ -25,33 +25,33 @@ is_odd-more [] piece = refl
 is_odd-more (x ∷ pieces) piece = ap not (is_odd-more pieces piece)
 
 -- one more gap
-pub stands_gap : {p q : ℕ} {input a b : List ℕ} {pieces : List ElementModel} {opens : List Open} → StandsOpen input pieces opens p a
+pub present_gap : {p q : ℕ} {input a b : List ℕ} {pieces : List ElementModel} {opens : List Open} → StandsOpen input pieces opens p a
     → ((room : ℕ) → room + length opens ≡ 64 → IsGap room p a q b) → StandsOpen input pieces opens q b
-stands_gap (outermost els gap) more = outermost els (gap_then gap (more 64 refl))
-stands_gap (opened {room = room} stands token full (within bracket els gap)) more = opened stands token full (within bracket els (gap_then gap (more room full)))
-stands_gap (opened {room = room} stands token full (waiting bracket gap)) more = opened stands token full (waiting bracket (gap_then gap (more room full)))
+present_gap (outermost els gap) more = outermost els (gap_then gap (more 64 refl))
+present_gap (opened {room = room} present token full (within bracket els gap)) more = opened present token full (within bracket els (gap_then gap (more room full)))
+present_gap (opened {room = room} present token full (waiting bracket gap)) more = opened present token full (waiting bracket (gap_then gap (more room full)))
 
 -- one more bracket, tag or discard that opens
-pub stands_opened : {p q : ℕ} {input a b : List ℕ} {pieces : List ElementModel} {opens : List Open} (opener : Opener) (w : Bool) → waits opener ≡ w → StandsOpen input pieces opens p a
+pub present_opened : {p q : ℕ} {input a b : List ℕ} {pieces : List ElementModel} {opens : List Open} (opener : Opener) (w : Bool) → waits opener ≡ w → StandsOpen input pieces opens p a
     → IsToken (Opens opener) p a q b → length opens < 64 → StandsOpen input pieces (record { place = p; opener = opener; odd = false } ∷ opens) q b
-stands_opened {opens = opens} opener true w stands token room = opened {room = 63 - length opens} stands token (omega arith) (waiting w nothing)
-stands_opened {opens = opens} opener false w stands token room = opened {room = 63 - length opens} stands token (omega arith) (within w none nothing)
+present_opened {opens = opens} opener true w present token room = opened {room = 63 - length opens} present token (omega arith) (waiting w nothing)
+present_opened {opens = opens} opener false w present token room = opened {room = 63 - length opens} present token (omega arith) (within w none nothing)
 
 -- one more element in the innermost bracket
-pub stands_inside : {p q : ℕ} {input a b : List ℕ} {pieces : List ElementModel} {innermost : Open} {opens : List Open} (kind : ElementKind) (core : Core) (text : List ℕ)
+pub present_inside : {p q : ℕ} {input a b : List ℕ} {pieces : List ElementModel} {innermost : Open} {opens : List Open} (kind : ElementKind) (core : Core) (text : List ℕ)
     → waits innermost.opener ≡ false → StandsOpen input pieces (innermost ∷ opens) p a → ((room : ℕ) → room + suc (length opens) ≡ 64 → IsElementAt room kind core p a q b)
     → a ≡ text ++ b → StandsOpen input pieces (record { place = innermost.place; opener = innermost.opener; odd = not innermost.odd } ∷ opens) q b
-stands_inside {p} {q} {input} {a} {b} {pieces} {innermost} {opens} kind core text w (opened {room = room} {place = place} {opener = opener} stands token full (within {inside = inside} bracket els gap)) element whole =
+present_inside {p} {q} {input} {a} {b} {pieces} {innermost} {opens} kind core text w (opened {room = room} {place = place} {opener = opener} present token full (within {inside = inside} bracket els gap)) element whole =
     let piece : ElementModel = record { kind = kind; start = p; text = text; core = core } in
     let longer = elements_more piece els gap (element room full) whole in
-    subst (λ (odd : Bool). StandsOpen input pieces (record { place = place; opener = opener; odd = odd } ∷ opens) q b) (is_odd-more inside piece) (opened stands token full (within bracket longer nothing))
-stands_inside kind core text w (opened stands token full (waiting bracket gap)) element whole = absurd cc
+    subst (λ (odd : Bool). StandsOpen input pieces (record { place = place; opener = opener; odd = odd } ∷ opens) q b) (is_odd-more inside piece) (opened present token full (within bracket longer nothing))
+present_inside kind core text w (opened present token full (waiting bracket gap)) element whole = absurd cc
 
 -- one more outermost element
-pub stands_outermost : {p q : ℕ} {input a b : List ℕ} {pieces : List ElementModel} (kind : ElementKind) (core : Core) (text : List ℕ)
+pub present_outermost : {p q : ℕ} {input a b : List ℕ} {pieces : List ElementModel} (kind : ElementKind) (core : Core) (text : List ℕ)
     → StandsOpen input pieces [] p a → IsElementAt 64 kind core p a q b → a ≡ text ++ b
     → IsElements 64 0 input (pieces ++ record { kind = kind; start = p; text = text; core = core } ∷ []) q b
-stands_outermost {p} kind core text (outermost els gap) element whole = elements_more (record { kind = kind; start = p; text = text; core = core }) els gap element whole
+present_outermost {p} kind core text (outermost els gap) element whole = elements_more (record { kind = kind; start = p; text = text; core = core }) els gap element whole
 
 -- what was open before a bracket that is closed, and the element from that bracket on
 pub record Closed (input : List ℕ) (pieces : List ElementModel) (innermost : Open) (opens : List Open) (q : ℕ) (rest : List ℕ) : Type 0 where
@@ -59,18 +59,18 @@ pub record Closed (input : List ℕ) (pieces : List ElementModel) (innermost : O
   pub before : StandsOpen input pieces opens innermost.place bytes
   pub element : (room : ℕ) → room + length opens ≡ 64 → IsElementAt room (kind_of innermost.opener) (record { kind = kind_of innermost.opener; start = innermost.place }) innermost.place bytes q rest
 
-pub stands_closed : {p q : ℕ} {input a b : List ℕ} {pieces : List ElementModel} {innermost : Open} {opens : List Open} {bracket : Bracket}
+pub present_closed : {p q : ℕ} {input a b : List ℕ} {pieces : List ElementModel} {innermost : Open} {opens : List Open} {bracket : Bracket}
     → waits innermost.opener ≡ false → StandsOpen input pieces (innermost ∷ opens) p a → IsToken (Closes bracket) p a q b
     → fits innermost.opener bracket ≡ true → is_paired innermost.opener && innermost.odd ≡ false
     → Closed input pieces innermost opens q b
-stands_closed {q = q} {b = b} {opens = opens} w (opened {room = inner_room} {place = place} {bytes = bytes} {opener = opener} stands token full (within square els gap)) last fit even = record {
+present_closed {q = q} {b = b} {opens = opens} w (opened {room = inner_room} {place = place} {bytes = bytes} {opener = opener} present token full (within square els gap)) last fit even = record {
   bytes = bytes;
-  before = stands;
+  before = present;
   element = λ room enough.
       let same : suc inner_room ≡ room = omega arith in
       subst (λ (n : ℕ). IsElementAt n (kind_of opener) (record { kind = kind_of opener; start = place }) place bytes q b) same (bracketed token els gap last fit even);
 }
-stands_closed w (opened stands token full (waiting square gap)) last fit even = absurd cc
+present_closed w (opened present token full (waiting square gap)) last fit even = absurd cc
 
 -- what was open before a tag or a discard that waits, its token, and the gap after it
 pub record Waited (input : List ℕ) (pieces : List ElementModel) (innermost : Open) (opens : List Open) (p : ℕ) (a : List ℕ) : Type 0 where
@@ -83,12 +83,12 @@ pub record Waited (input : List ℕ) (pieces : List ElementModel) (innermost : O
   pub token : IsToken (Opens innermost.opener) innermost.place bytes inner left
   pub gap : IsGap room inner left p a
 
-pub stands_waited : {p : ℕ} {input a : List ℕ} {pieces : List ElementModel} {innermost : Open} {opens : List Open} → waits innermost.opener ≡ true → StandsOpen input pieces (innermost ∷ opens) p a
+pub present_waited : {p : ℕ} {input a : List ℕ} {pieces : List ElementModel} {innermost : Open} {opens : List Open} → waits innermost.opener ≡ true → StandsOpen input pieces (innermost ∷ opens) p a
     → Waited input pieces innermost opens p a
-stands_waited w (opened stands token full (within bracket els gap)) = absurd cc
-stands_waited w (opened {room = room} {inner = inner} {bytes = bytes} {left = left} stands token full (waiting bracket gap)) = record {
+present_waited w (opened present token full (within bracket els gap)) = absurd cc
+present_waited w (opened {room = room} {inner = inner} {bytes = bytes} {left = left} present token full (waiting bracket gap)) = record {
   bytes = bytes;
-  before = stands;
+  before = present;
   room = room;
   full = full;
   inner = inner;

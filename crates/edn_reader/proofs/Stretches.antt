@@ -229,12 +229,12 @@ here_more : (p b c : ℕ) (bytes : List ℕ) (n : ℕ) → Sign b → quoted_len
     → ((m : ℕ) → quoted_length bytes ≡ Some m → IsQuoted (suc (suc p)) bytes (suc (suc p) + m) (drop m bytes))
     → ((m : ℕ) → quoted_length (c ∷ bytes) ≡ Some m → IsQuoted (suc p) (c ∷ bytes) (suc p + m) (drop m (c ∷ bytes)))
     → IsQuoted p (b ∷ c ∷ bytes) (p + n) (drop n (b ∷ c ∷ bytes))
-here_more p b c bytes n (quote u) e behind later = here_closing p b (c ∷ bytes) n u e
-here_more p b c bytes n (backslash u) e behind later =
+here_more p b c bytes n (quote u) e following later = here_closing p b (c ∷ bytes) n u e
+here_more p b c bytes n (backslash u) e following later =
     let m = map_some (λ k. suc (suc k)) (quoted_length bytes) n (sym (quoted_taken b c bytes u) ∙ e) in
     let rest : drop m.0 bytes ≡ drop n (b ∷ c ∷ bytes) = ap (λ (k : ℕ). drop k (b ∷ c ∷ bytes)) m.2 in
-    quoted_at (taken u (behind m.0 m.1)) (omega (arith, m.2)) rest
-here_more p b c bytes n (plain u v) e behind later = here_other p b (c ∷ bytes) n u v e later
+    quoted_at (taken u (following m.0 m.1)) (omega (arith, m.2)) rest
+here_more p b c bytes n (plain u v) e following later = here_other p b (c ∷ bytes) n u v e later
 
 -- the Text that was computed is one by the grammar
 pub quoted_here : (p : ℕ) (bytes : List ℕ) (n : ℕ) → quoted_length bytes ≡ Some n → IsQuoted p bytes (p + n) (drop n bytes)
@@ -267,11 +267,11 @@ ending_last b (plain u v) e = record { tail = 34 ∷ []; text = λ p c. quoted_a
 
 ending_more : (b c : ℕ) (bytes : List ℕ) → Sign b → quoted_length (b ∷ c ∷ bytes) ≡ None → (quoted_length bytes ≡ None → Ending bytes)
     → (quoted_length (c ∷ bytes) ≡ None → Ending (c ∷ bytes)) → Ending (b ∷ c ∷ bytes)
-ending_more b c bytes (quote u) e behind later = let some_is = quoted_closing b (c ∷ bytes) u in absurd cc
-ending_more b c bytes (backslash u) e behind later =
-    let h = behind (map_none (λ k. suc (suc k)) (quoted_length bytes) (sym (quoted_taken b c bytes u) ∙ e)) in
+ending_more b c bytes (quote u) e following later = let some_is = quoted_closing b (c ∷ bytes) u in absurd cc
+ending_more b c bytes (backslash u) e following later =
+    let h = following (map_none (λ k. suc (suc k)) (quoted_length bytes) (sym (quoted_taken b c bytes u) ∙ e)) in
     record { tail = h.tail; text = λ p rest. quoted_at (taken u (h.text (suc (suc p)) rest)) (omega arith) refl }
-ending_more b c bytes (plain u v) e behind later =
+ending_more b c bytes (plain u v) e following later =
     let h = later (map_none suc (quoted_length (c ∷ bytes)) (sym (quoted_other b (c ∷ bytes) u v) ∙ e)) in
     record { tail = h.tail; text = λ p rest. quoted_at (other u v (h.text (suc p) rest)) (omega arith) refl }
 
@@ -316,10 +316,6 @@ pub add_some : (n m : ℕ) (o : Option ℕ) → o ≡ Some m → add_length n o 
 unfolding add_length
 add_some n m o e = ap (option_map (λ k. n + k)) e
 
-pub add_none : (n : ℕ) (o : Option ℕ) → o ≡ None → add_length n o ≡ None
-unfolding add_length
-add_none n o e = ap (option_map (λ k. n + k)) e
-
 pub add_zero : (o : Option ℕ) → add_length 0 o ≡ o
 unfolding add_length
 add_zero None = refl
@@ -341,16 +337,16 @@ add_two_length None = refl
 add_two_length (Some m) = ap Some (omega arith)
 
 -- a Text goes on over bytes that are no quotes and no backslashes
-quoted_behind : (bytes behind : List ℕ) (n : ℕ) → n ≤ length bytes → ((k : ℕ) → k < n → (get_or bytes k 0 ≢ 34) × (get_or bytes k 0 ≢ 92))
-    → quoted_length (bytes ++ behind) ≡ add_length n (quoted_length (drop n bytes ++ behind))
-quoted_behind [] behind zero le all = sym (add_zero (quoted_length behind))
-quoted_behind [] behind (suc n) le all = absurd (omega arith)
-quoted_behind (b ∷ bytes) behind zero le all = sym (add_zero (quoted_length (b ∷ (bytes ++ behind))))
-quoted_behind (b ∷ bytes) behind (suc n) le all =
+quoted_after : (bytes following : List ℕ) (n : ℕ) → n ≤ length bytes → ((k : ℕ) → k < n → (get_or bytes k 0 ≢ 34) × (get_or bytes k 0 ≢ 92))
+    → quoted_length (bytes ++ following) ≡ add_length n (quoted_length (drop n bytes ++ following))
+quoted_after [] following zero le all = sym (add_zero (quoted_length following))
+quoted_after [] following (suc n) le all = absurd (omega arith)
+quoted_after (b ∷ bytes) following zero le all = sym (add_zero (quoted_length (b ∷ (bytes ++ following))))
+quoted_after (b ∷ bytes) following (suc n) le all =
     let here = all 0 (omega arith) in
-    quoted_other b (bytes ++ behind) here.0 here.1
-    ∙ (ap (option_map suc) (quoted_behind bytes behind n (omega arith) (λ k low. all (suc k) (omega arith)))
-    ∙ (add_one_length (add_length n (quoted_length (drop n bytes ++ behind))) ∙ add_twice 1 n (suc n) (quoted_length (drop n bytes ++ behind)) (omega arith)))
+    quoted_other b (bytes ++ following) here.0 here.1
+    ∙ (ap (option_map suc) (quoted_after bytes following n (omega arith) (λ k low. all (suc k) (omega arith)))
+    ∙ (add_one_length (add_length n (quoted_length (drop n bytes ++ following))) ∙ add_twice 1 n (suc n) (quoted_length (drop n bytes ++ following)) (omega arith)))
 
 no_sign : (b : ℕ) → Sign b → ¬ (is_byte2 34 92 b ≡ true) → (b ≢ 34) × (b ≢ 92)
 no_sign b (quote e) u = absurd (u (let one : eqb b 34 ≡ true = grind (arith, nat_tests) in ap (λ (t : Bool). t || eqb b 92) one))
@@ -358,35 +354,35 @@ no_sign b (backslash e) u = absurd (u (grind (arith, nat_tests)))
 no_sign b (plain v w) u = (v, w)
 
 -- a Text goes on up to its first quote or backslash
-quoted_up : (bytes behind : List ℕ) (n : ℕ) → NoneBefore (Passes (is_byte2 34 92) bytes) 0 (length bytes) n
-    → quoted_length (bytes ++ behind) ≡ add_length n (quoted_length (get_or bytes n 0 ∷ (drop (n + 1) bytes ++ behind)))
-quoted_up bytes behind n found =
-    quoted_behind bytes behind n (omega (arith, found.high)) (λ k low. no_sign (get_or bytes k 0) (sign_of (get_or bytes k 0)) (found.before k (omega arith) low))
-    ∙ ap (λ (left : List ℕ). add_length n (quoted_length (left ++ behind))) (drop_here bytes n found.high)
+quoted_up : (bytes following : List ℕ) (n : ℕ) → NoneBefore (Passes (is_byte2 34 92) bytes) 0 (length bytes) n
+    → quoted_length (bytes ++ following) ≡ add_length n (quoted_length (get_or bytes n 0 ∷ (drop (n + 1) bytes ++ following)))
+quoted_up bytes following n found =
+    quoted_after bytes following n (omega (arith, found.high)) (λ k low. no_sign (get_or bytes k 0) (sign_of (get_or bytes k 0)) (found.before k (omega arith) low))
+    ∙ ap (λ (left : List ℕ). add_length n (quoted_length (left ++ following))) (drop_here bytes n found.high)
 
-pub quote_found : (bytes behind : List ℕ) (n : ℕ) → NoneBefore (Passes (is_byte2 34 92) bytes) 0 (length bytes) n → get_or bytes n 0 ≡ 34 → quoted_length (bytes ++ behind) ≡ Some (n + 1)
-quote_found bytes behind n found e = quoted_up bytes behind n found ∙ add_some n 1 _ (quoted_closing (get_or bytes n 0) (drop (n + 1) bytes ++ behind) e)
+pub quote_found : (bytes following : List ℕ) (n : ℕ) → NoneBefore (Passes (is_byte2 34 92) bytes) 0 (length bytes) n → get_or bytes n 0 ≡ 34 → quoted_length (bytes ++ following) ≡ Some (n + 1)
+quote_found bytes following n found e = quoted_up bytes following n found ∙ add_some n 1 _ (quoted_closing (get_or bytes n 0) (drop (n + 1) bytes ++ following) e)
 
 -- a backslash that is the last of the bytes escapes the first byte after them
-pub backslash_last : (bytes behind : List ℕ) (n : ℕ) → NoneBefore (Passes (is_byte2 34 92) bytes) 0 (length bytes) n → n + 1 ≡ length bytes
-    → quoted_length (bytes ++ behind) ≡ add_length n (quoted_length (get_or bytes n 0 ∷ behind))
-backslash_last bytes behind n found last =
+pub backslash_last : (bytes following : List ℕ) (n : ℕ) → NoneBefore (Passes (is_byte2 34 92) bytes) 0 (length bytes) n → n + 1 ≡ length bytes
+    → quoted_length (bytes ++ following) ≡ add_length n (quoted_length (get_or bytes n 0 ∷ following))
+backslash_last bytes following n found last =
     let nothing : drop (n + 1) bytes ≡ [] = drop_of_length-le bytes (omega arith) in
-    quoted_up bytes behind n found ∙ ap (λ (left : List ℕ). add_length n (quoted_length (get_or bytes n 0 ∷ (left ++ behind)))) nothing
+    quoted_up bytes following n found ∙ ap (λ (left : List ℕ). add_length n (quoted_length (get_or bytes n 0 ∷ (left ++ following)))) nothing
 
-pub backslash_found : (bytes behind : List ℕ) (n : ℕ) → NoneBefore (Passes (is_byte2 34 92) bytes) 0 (length bytes) n → get_or bytes n 0 ≡ 92 → n + 1 < length bytes
-    → quoted_length (bytes ++ behind) ≡ add_length (n + 2) (quoted_length (drop (n + 2) bytes ++ behind))
-backslash_found bytes behind n found e more_left =
+pub backslash_found : (bytes following : List ℕ) (n : ℕ) → NoneBefore (Passes (is_byte2 34 92) bytes) 0 (length bytes) n → get_or bytes n 0 ≡ 92 → n + 1 < length bytes
+    → quoted_length (bytes ++ following) ≡ add_length (n + 2) (quoted_length (drop (n + 2) bytes ++ following))
+backslash_found bytes following n found e more_left =
     let place : n + 1 + 1 ≡ n + 2 = omega arith in
     let left : drop (n + 1) bytes ≡ get_or bytes (n + 1) 0 ∷ drop (n + 2) bytes =
     drop_here bytes (n + 1) more_left ∙ ap (λ (k : ℕ). get_or bytes (n + 1) 0 ∷ drop k bytes) place in
-    quoted_up bytes behind n found
-    ∙ ap (add_length n) (ap (λ (xs : List ℕ). quoted_length (get_or bytes n 0 ∷ (xs ++ behind))) left
-    ∙ (quoted_taken (get_or bytes n 0) (get_or bytes (n + 1) 0) (drop (n + 2) bytes ++ behind) e ∙ add_two_length (quoted_length (drop (n + 2) bytes ++ behind))))
-    ∙ add_twice n 2 (n + 2) (quoted_length (drop (n + 2) bytes ++ behind)) refl
+    quoted_up bytes following n found
+    ∙ ap (add_length n) (ap (λ (xs : List ℕ). quoted_length (get_or bytes n 0 ∷ (xs ++ following))) left
+    ∙ (quoted_taken (get_or bytes n 0) (get_or bytes (n + 1) 0) (drop (n + 2) bytes ++ following) e ∙ add_two_length (quoted_length (drop (n + 2) bytes ++ following))))
+    ∙ add_twice n 2 (n + 2) (quoted_length (drop (n + 2) bytes ++ following)) refl
 
-pub sign_nowhere : (bytes behind : List ℕ) → Nowhere (Passes (is_byte2 34 92) bytes) 0 (length bytes) → quoted_length (bytes ++ behind) ≡ add_length (length bytes) (quoted_length behind)
-sign_nowhere bytes behind nowhere =
+pub sign_nowhere : (bytes following : List ℕ) → Nowhere (Passes (is_byte2 34 92) bytes) 0 (length bytes) → quoted_length (bytes ++ following) ≡ add_length (length bytes) (quoted_length following)
+sign_nowhere bytes following nowhere =
     let nothing : drop (length bytes) bytes ≡ [] = drop_of_length-le bytes (omega arith) in
-    quoted_behind bytes behind (length bytes) (omega arith) (λ k low. no_sign (get_or bytes k 0) (sign_of (get_or bytes k 0)) (nowhere k (omega arith) low))
-    ∙ ap (λ (left : List ℕ). add_length (length bytes) (quoted_length (left ++ behind))) nothing
+    quoted_after bytes following (length bytes) (omega arith) (λ k low. no_sign (get_or bytes k 0) (sign_of (get_or bytes k 0)) (nowhere k (omega arith) low))
+    ∙ ap (λ (left : List ℕ). add_length (length bytes) (quoted_length (left ++ following))) nothing

@@ -25,7 +25,7 @@ use Rattle.edn_reader.specs.Token.{lexed, class_token, hash_token, after_hash, t
 use Rattle.edn_reader.specs.Taking.{Taken, fails, on, closed, taken, fault_before}
 use Rattle.edn_reader.proofs.Places.{Replaced, replaced_then, cancel_end, moved_gap, moved_element}
 use Rattle.edn_reader.proofs.Lexing.{lexed_token}
-use Rattle.edn_reader.proofs.Runs.{Leads, leads_then, one_run, given_more, run_ends, goes, front_taken, span_at, leads_gap, leads_outermost_element, leads_outermost, leads_stands}
+use Rattle.edn_reader.proofs.Runs.{Leads, leads_then, one_run, given_more, run_ends, goes, front_taken, span_at, leads_gap, leads_outermost_element, leads_outermost, leads_present}
 
 -- ---- the first element
 
@@ -69,11 +69,11 @@ same_first {p = p} {q = q} {r = r} {a = a} {left = left} {b = b} {others = other
     let spans = same_span (span_at piece.kind piece.core piece.start q) (span_at second.kind second.core second.start r)
     (leads_then (leads_gap gap [] [] (omega arith)) (leads_outermost_element element [] le)) (leads_then (leads_gap before [] [] (omega arith)) (leads_outermost_element found [] ge)) in
     let start : piece.start ≡ second.start = ap (λ (s : Span). s.start) spans in
-    let behind : q ≡ r = ap (λ (s : Span). s.end) spans in
-    let rest : b ≡ d = left_of_element gap element ∙ ap (λ (n : ℕ). drop (n - p) a) behind ∙ sym (left_of_element before found) in
+    let following : q ≡ r = ap (λ (s : Span). s.end) spans in
+    let rest : b ≡ d = left_of_element gap element ∙ ap (λ (n : ℕ). drop (n - p) a) following ∙ sym (left_of_element before found) in
     let front : left ≡ others = left_of_gap gap ∙ ap (λ (n : ℕ). drop (n - p) a) start ∙ sym (left_of_gap before) in
     let text : piece.text ≡ second.text = cancel_end piece.text second.text d (ap (λ (x : List ℕ). piece.text ++ x) (sym rest) ∙ sym whole ∙ front ∙ all) in
-    (same_piece piece second (ap (λ (s : Span). s.kind) spans) start text (ap (λ (s : Span). s.core) spans), behind, rest)
+    (same_piece piece second (ap (λ (s : Span). s.kind) spans) start text (ap (λ (s : Span). s.core) spans), following, rest)
 
 -- ---- what fails
 
@@ -187,15 +187,15 @@ same_ending x y =
           record { place = sym s.place; bytes = sym s.bytes; opens = sym s.opens; many = sym x.many ∙ ap length (sym s.given) ∙ y.many })
     ]
 
-pub ending_stands : {p : ℕ} {input a : List ℕ} {pieces : List ElementModel} {opens : List Open} → StandsOpen input pieces opens p a → goes (front_taken p a opens) ≡ None → Ending input p a opens pieces
-ending_stands stands stuck = let o = leads_stands stands in record { spans = o.spans; run = o.run; stuck = stuck; many = o.many }
+pub ending_present : {p : ℕ} {input a : List ℕ} {pieces : List ElementModel} {opens : List Open} → StandsOpen input pieces opens p a → goes (front_taken p a opens) ≡ None → Ending input p a opens pieces
+ending_present present stuck = let o = leads_present present in record { spans = o.spans; run = o.run; stuck = stuck; many = o.many }
 
 at_end : (p : ℕ) (opens : List Open) → goes (front_taken p [] opens) ≡ None
 unfolding lexed taken
 at_end p opens = refl
 
 pub ending_end : {p : ℕ} {input : List ℕ} {pieces : List ElementModel} {opens : List Open} → StandsOpen input pieces opens p [] → Ending input p [] opens pieces
-ending_end {p} {opens = opens} stands = ending_stands stands (at_end p opens)
+ending_end {p} {opens = opens} present = ending_present present (at_end p opens)
 
 -- a prefix of gaps and elements has no more elements than the run up to a failing token
 pub front_fewer : {p q room : ℕ} {input a b : List ℕ} {opens : List Open} {firsts seconds : List ElementModel} → room ≤ 64 → IsElements room 0 input firsts q b → Ending input p a opens seconds → length firsts ≤ length seconds

@@ -21,11 +21,11 @@ use Rattle.edn_reader.specs.Fault.{by_bracket, by_hash, Refuses, too_deep, closi
 use Rattle.edn_reader.specs.Taking.{fails, with_one, is_tag}
 use Rattle.edn_reader.proofs.Stretches.{take_all}
 use Rattle.edn_reader.proofs.Lexing.{Finishing}
-use Rattle.edn_reader.proofs.Places.{Follows, moved_stands}
-use Rattle.edn_reader.proofs.Steps.{stands_gap, stands_closed}
+use Rattle.edn_reader.proofs.Places.{Follows, moved_present}
+use Rattle.edn_reader.proofs.Steps.{present_gap, present_closed}
 use Rattle.edn_reader.proofs.Runs.{settled, span_at, front_taken, failing, goes}
-use Rattle.edn_reader.proofs.Unique.{Ending, ending_stands, ending_end, same_ending, refused_taken, same_list}
-use Rattle.edn_reader.proofs.Ended.{stands_more, stands_end, stands_text}
+use Rattle.edn_reader.proofs.Unique.{Ending, ending_present, ending_end, same_ending, refused_taken, same_list}
+use Rattle.edn_reader.proofs.Ended.{present_more, present_end, present_text}
 
 -- ---- bytes that go on alike after anything
 
@@ -40,9 +40,6 @@ letter = refl
 hash : class_of 35 ≡ Hash
 unfolding class_of
 hash = refl
-
-other_class : (c k : ByteClass) → c ≡ White → k ≢ White → c ≢ k
-other_class c k e n h = n (sym h ∙ e)
 
 -- a line end ends runs and comments, and a # before it is a tag
 pub clear : (b tail : List ℕ) → Follows b (10 ∷ tail)
@@ -107,11 +104,11 @@ unfolding after_one
 after_bracket item opens w = rw (no_tag item.opener w, w) refl
 
 -- one more element where these are open
-pub stands_after : {input a b : List ℕ} {pieces : List ElementModel} (opens : List Open) (span : Span) → StandsOpen input pieces opens span.start a
+pub present_after : {input a b : List ℕ} {pieces : List ElementModel} (opens : List Open) (span : Span) → StandsOpen input pieces opens span.start a
     → ((room : ℕ) → room + length opens ≡ 64 → IsElementAt room span.kind span.core span.start a span.end b)
     → (others : List ElementModel) × StandsOpen input others (after_one opens) span.end b
-stands_after {input} {a} {b} opens span stands element =
-    let m = stands_more opens span stands element in
+present_after {input} {a} {b} opens span present element =
+    let m = present_more opens span present element in
     (m.0, subst (λ (x : List Open). StandsOpen input m.0 x span.end b) (settled_after span opens) m.1)
 
 -- how what is open can go on to be a text, after a line end
@@ -122,7 +119,7 @@ record Completion (opens : List Open) : Type 0 where
 completed_none : Completion []
 completed_none = record {
   tail = [];
-  text = λ input pieces p s. (pieces, stands_text (stands_gap s (λ room fit. newline)));
+  text = λ input pieces p s. (pieces, present_text (present_gap s (λ room fit. newline)));
 }
 
 completed_element : (opens : List Open) → Completion (after_one opens) → Completion opens
@@ -130,7 +127,7 @@ completed_element opens c = record {
   tail = 97 ∷ 10 ∷ c.tail;
   text = λ input pieces p s.
       let span = span_at Atom (record { kind = Atom; start = suc p }) (suc p) (suc (suc p)) in
-      let t = stands_after opens span (stands_gap s (λ room fit. newline)) (λ room fit. leaf letter_run) in
+      let t = present_after opens span (present_gap s (λ room fit. newline)) (λ room fit. leaf letter_run) in
       c.text input t.0 (suc (suc p)) t.1;
 }
 
@@ -156,9 +153,9 @@ completed_even item opens w even c =
     record {
       tail = k.byte ∷ 10 ∷ c.tail;
       text = λ input pieces p s.
-          let closed = stands_closed w (stands_gap s (λ room fit. newline)) (close k.is) k.fit even in
+          let closed = present_closed w (present_gap s (λ room fit. newline)) (close k.is) k.fit even in
           let span = span_at (kind_of item.opener) (record { kind = kind_of item.opener; start = item.place }) item.place (suc (suc p)) in
-          let t = stands_after opens span closed.before closed.element in
+          let t = present_after opens span closed.before closed.element in
           c.text input t.0 (suc (suc p)) t.1;
     }
 
@@ -194,7 +191,7 @@ take_front front rest p e = let n : p ≡ length front = omega arith in rw n (ta
 pub viable : {p : ℕ} {input rest : List ℕ} {pieces : List ElementModel} {opens : List Open} → StandsOpen input pieces opens p rest → IsViable (take p input)
 viable {p} {input} {rest} {pieces} {opens} s =
     let c = complete opens in
-    let m = moved_stands s (10 ∷ c.tail) (clear rest c.tail) in
+    let m = moved_present s (10 ∷ c.tail) (clear rest c.tail) in
     let t = c.text m.0 pieces p m.1 in
     let taken : take p input ≡ m.2.front = ap (take p) m.2.here ∙ take_front m.2.front rest p m.2.place in
     (10 ∷ c.tail, t.0, subst (λ (x : List ℕ). IsText x t.0) (m.2.there ∙ ap (λ (f : List ℕ). f ++ (10 ∷ c.tail)) (sym taken)) t.1)
@@ -212,9 +209,9 @@ hash_word e = hashed e hash (ended refl)
 viable_hash : {b p : ℕ} {input rest : List ℕ} {pieces : List ElementModel} {opens : List Open} → StandsOpen input pieces opens p (b ∷ rest) → class_of b ≡ Hash → IsViable (take (suc p) input)
 viable_hash {b} {p} {input} {rest} {pieces} {opens} s h =
     let c = complete (after_one opens) in
-    let m = moved_stands s (b ∷ 35 ∷ 10 ∷ c.tail) (λ k. k, λ k. k, λ k. k) in
+    let m = moved_present s (b ∷ 35 ∷ 10 ∷ c.tail) (λ k. k, λ k. k, λ k. k) in
     let span = span_at Atom (record { kind = Atom; start = p }) p (suc (suc p)) in
-    let n = stands_after opens span m.1 (λ room fit. leaf (hash_word h)) in
+    let n = present_after opens span m.1 (λ room fit. leaf (hash_word h)) in
     let t = c.text m.0 n.0 (suc (suc p)) n.1 in
     let taken : take (suc p) input ≡ m.2.front ++ b ∷ [] = taken_more p m.2.front (b ∷ []) rest input m.2.here m.2.place (suc p) (omega arith) in
     (35 ∷ 10 ∷ c.tail, t.0, subst (λ (x : List ℕ). IsText x t.0) (m.2.there ∙ sym (append_assoc m.2.front (b ∷ []) (35 ∷ 10 ∷ c.tail)) ∙ ap (λ (f : List ℕ). f ++ (35 ∷ 10 ∷ c.tail)) (sym taken)) t.1)
@@ -241,13 +238,13 @@ pub ending_text : {input : List ℕ} {pieces : List ElementModel} → IsText inp
 ending_text (at, after, front, gap) = (after, ending_end (outermost front gap))
 
 pub ending_refused : {p at : ℕ} {input bytes : List ℕ} {pieces : List ElementModel} {opens : List Open} {fault : EdnFault} → StandsOpen input pieces opens p bytes → Refuses opens p bytes at fault → Ending input p bytes opens pieces
-ending_refused {p} {bytes = bytes} {opens = opens} {fault = fault} s r = ending_stands s (failing p bytes opens fault (refused_taken r))
+ending_refused {p} {bytes = bytes} {opens = opens} {fault = fault} s r = ending_present s (failing p bytes opens fault (refused_taken r))
 
 pub not_viable : {p at : ℕ} {input bytes : List ℕ} {pieces : List ElementModel} {opens : List Open} {fault : EdnFault} → StandsOpen input pieces opens p bytes → Refuses opens p bytes at fault
     → IsViable (take (suc at) input) → ⊥
 not_viable {p} {at} {input} {bytes} {pieces} {opens} {fault} s r (more, others, text) =
     let k = mark_of r in
-    let m = moved_stands s ((k.first ∷ k.mark) ++ more) (subst (λ (x : List ℕ). Follows x ((k.first ∷ k.mark) ++ more)) (sym k.here) (λ h. h, λ h. h, λ h. h)) in
+    let m = moved_present s ((k.first ∷ k.mark) ++ more) (subst (λ (x : List ℕ). Follows x ((k.first ∷ k.mark) ++ more)) (sym k.here) (λ h. h, λ h. h, λ h. h)) in
     let here : input ≡ m.2.front ++ ((k.first ∷ k.mark) ++ k.rest) = m.2.here ∙ ap (λ (x : List ℕ). m.2.front ++ x) k.here in
     let taken : take (suc at) input ≡ m.2.front ++ (k.first ∷ k.mark) = taken_more p m.2.front (k.first ∷ k.mark) k.rest input here m.2.place (suc at) k.place in
     let same : take (suc at) input ++ more ≡ m.0 = ap (λ (x : List ℕ). x ++ more) taken ∙ append_assoc m.2.front (k.first ∷ k.mark) more ∙ sym m.2.there in
@@ -275,7 +272,7 @@ ends_early {input = input} x more v e =
 
 pub fault_open_end : {p : ℕ} {input : List ℕ} {pieces : List ElementModel} {item : Open} {opens : List Open} → StandsOpen input pieces (item ∷ opens) p [] → FaultOf input (faults.Truncated p)
 fault_open_end {p} {input} s =
-    let long : p ≡ length input = omega (arith, stands_end s) in
+    let long : p ≡ length input = omega (arith, present_end s) in
     let whole : take p input ≡ input = ap (λ (k : ℕ). take k input) long ∙ take_all input in
     ends_early (ending_end s) (λ e f. absurd (omega (arith, ap length f))) (subst IsViable whole (viable s)) long
 
@@ -291,16 +288,16 @@ pub viable_finished : {p : ℕ} {input a : List ℕ} {pieces : List ElementModel
 viable_finished {p} {input} {a} {pieces} {opens} s some f =
     let c = complete (after_one opens) in
     let more = f.tail ++ (10 ∷ c.tail) in
-    let m = moved_stands s (a ++ more) (same_front a more some) in
+    let m = moved_present s (a ++ more) (same_front a more some) in
     let span = span_at f.kind (record { kind = f.kind; start = p }) p (p + length (a ++ f.tail)) in
-    let n = stands_after opens span m.1 (λ room fit. leaf (f.token p (10 ∷ c.tail) (clear_run c.tail))) in
+    let n = present_after opens span m.1 (λ room fit. leaf (f.token p (10 ∷ c.tail) (clear_run c.tail))) in
     let t = c.text m.0 n.0 (p + length (a ++ f.tail)) n.1 in
     (more, t.0, subst (λ (x : List ℕ). IsText x t.0) (m.2.there ∙ sym (append_assoc m.2.front a more) ∙ ap (λ (x : List ℕ). x ++ more) (sym m.2.here)) t.1)
 
 pub fault_unfinished : {p : ℕ} {input a : List ℕ} {pieces : List ElementModel} {opens : List Open} → StandsOpen input pieces opens p a → 0 < length a → Finishing a → goes (front_taken p a opens) ≡ None
     → FaultOf input (faults.Truncated (p + length a))
 fault_unfinished {p} {input} {a} s some f stuck =
-    ends_early (ending_stands s stuck) (λ e g. absurd (omega (arith, some, ap length e))) (viable_finished s some f) (stands_end s)
+    ends_early (ending_present s stuck) (λ e g. absurd (omega (arith, some, ap length e))) (viable_finished s some f) (present_end s)
 
 -- ---- one fault
 

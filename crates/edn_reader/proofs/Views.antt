@@ -29,7 +29,7 @@ use Rattle.edn_reader.specs.Lent.{piece_of, PartsLeft, NextPart, PairsLeft, Next
 use Rattle.edn_reader.specs.Given.{given, seen as seen_of}
 use Rattle.edn_reader.proofs.Lexing.{lexed_token}
 use Rattle.edn_reader.proofs.Places.{moved_element, cancel_end, wider_element}
-use Rattle.edn_reader.proofs.Skipping.{core_at, element_no_gap, element_kind, beyond_gap, beyond_element, stands_token, leaf_core, leaf_end}
+use Rattle.edn_reader.proofs.Skipping.{core_at, element_no_gap, element_kind, beyond_gap, beyond_element, present_token, leaf_core, leaf_end}
 use Rattle.edn_reader.proofs.Unique.{same_first, no_first}
 
 -- ---- elements on their own
@@ -233,19 +233,19 @@ record Bracketed (bracket : Bracket) (p : ℕ) (a : List ℕ) : Type 0 where
   inside : PartsFrom (opener_of bracket) inner left pieces
   even : is_paired (opener_of bracket) && is_odd pieces ≡ false
 
-parts_from : {room inner ends begins after : ℕ} {left beyond behind rest : List ℕ} {opener : Opener} {last : Bracket} (pieces : List ElementModel) → room ≡ 63
-    → IsElements room inner left pieces ends beyond → IsGap room ends beyond begins behind → IsToken (Closes last) begins behind after rest → fits opener last ≡ true → rest ≡ []
+parts_from : {room inner ends begins after : ℕ} {left beyond following rest : List ℕ} {opener : Opener} {last : Bracket} (pieces : List ElementModel) → room ≡ 63
+    → IsElements room inner left pieces ends beyond → IsGap room ends beyond begins following → IsToken (Closes last) begins following after rest → fits opener last ≡ true → rest ≡ []
     → PartsFrom opener inner left pieces
-parts_from {room} {inner} {ends} {begins} {after} {left} {beyond} {behind} {rest} {opener} {last} pieces less els gap token fit end = record {
+parts_from {room} {inner} {ends} {begins} {after} {left} {beyond} {following} {rest} {opener} {last} pieces less els gap token fit end = record {
   ends = ends;
   beyond = beyond;
   begins = begins;
-  behind = behind;
+  following = following;
   after = after;
   bracket = last;
   elements = subst (λ (r : ℕ). IsElements r inner left pieces ends beyond) less els;
-  gap = subst (λ (r : ℕ). IsGap r ends beyond begins behind) less gap;
-  close = subst (λ (x : List ℕ). IsToken (Closes last) begins behind after x) end token;
+  gap = subst (λ (r : ℕ). IsGap r ends beyond begins following) less gap;
+  close = subst (λ (x : List ℕ). IsToken (Closes last) begins following after x) end token;
   closes = fit;
 }
 
@@ -298,15 +298,15 @@ has_pairs piece h kind =
 record First (room p : ℕ) (a : List ℕ) (piece : ElementModel) (pieces : List ElementModel) (ends : ℕ) (beyond : List ℕ) : Type 0 where
   left : List ℕ
   ended : ℕ
-  behind : List ℕ
+  following : List ℕ
   gap : IsGap room p a piece.start left
-  element : IsElementAt room piece.kind piece.core piece.start left ended behind
-  whole : left ≡ piece.text ++ behind
-  others : IsElements room ended behind pieces ends beyond
+  element : IsElementAt room piece.kind piece.core piece.start left ended following
+  whole : left ≡ piece.text ++ following
+  others : IsElements room ended following pieces ends beyond
 
 first_of : {room p ends : ℕ} {a beyond : List ℕ} {piece : ElementModel} {pieces : List ElementModel} → IsElements room p a (piece ∷ pieces) ends beyond → First room p a piece pieces ends beyond
-first_of (next {ended = ended} {left = left} {beyond = behind} gap element whole others) =
-    record { left = left; ended = ended; behind = behind; gap = gap; element = element; whole = whole; others = others }
+first_of (next {ended = ended} {left = left} {beyond = following} gap element whole others) =
+    record { left = left; ended = ended; following = following; gap = gap; element = element; whole = whole; others = others }
 
 none_of : {room p ends : ℕ} {a beyond : List ℕ} → IsElements room p a [] ends beyond → (p ≡ ends) × (a ≡ beyond)
 none_of none = (refl, refl)
@@ -322,32 +322,32 @@ no_first_kind : (opener : Opener) (at : ℕ) (left : List ℕ) (start : ℕ) →
 no_first_kind opener at left start h skips =
     let close = (lexed_token h.close).token_is in
     let same = none_of h.elements in
-    let gap : IsGap 63 at left h.begins h.behind =
-    subst (λ (p : ℕ). IsGap 63 p left h.begins h.behind) (sym same.0) (subst (λ (a : List ℕ). IsGap 63 h.ends a h.begins h.behind) (sym same.1) h.gap) in
+    let gap : IsGap 63 at left h.begins h.following =
+    subst (λ (p : ℕ). IsGap 63 p left h.begins h.following) (sym same.0) (subst (λ (a : List ℕ). IsGap 63 h.ends a h.begins h.following) (sym same.1) h.gap) in
     let here = gap_over start gap (subst NoGap (sym close) tt) skips in
     ap (λ (a : List ℕ). kind_token (lexed a).0) here.1 ∙ ap kind_token close
 
 -- what the bytes have at the indices that were found
-record Reached (left : List ℕ) (at start middle : ℕ) (piece : ElementModel) (ended : ℕ) (behind : List ℕ) : Type 0 where
+record Reached (left : List ℕ) (at start middle : ℕ) (piece : ElementModel) (ended : ℕ) (following : List ℕ) : Type 0 where
   begins : at + start ≡ piece.start
   first : kind_token (lexed (drop start left)).0 ≡ Some piece.kind
   core : at + middle ≡ piece.core.start
   inner : kind_token (lexed (drop middle left)).0 ≡ Some piece.core.kind
   room : ℕ
-  element : IsElementAt room piece.core.kind piece.core piece.core.start (drop middle left) ended behind
+  element : IsElementAt room piece.core.kind piece.core piece.core.start (drop middle left) ended following
 
-reached : {room at ended : ℕ} {left beyond behind : List ℕ} (piece : ElementModel) (start middle : ℕ) → IsGap room at left piece.start beyond → IsElementAt room piece.kind piece.core piece.start beyond ended behind
-    → SkipsGap left 0 start → SkipsTags left start middle → Reached left at start middle piece ended behind
-reached {room} {at} {ended} {left} {beyond} {behind} piece start middle gap element skips tags =
+reached : {room at ended : ℕ} {left beyond following : List ℕ} (piece : ElementModel) (start middle : ℕ) → IsGap room at left piece.start beyond → IsElementAt room piece.kind piece.core piece.start beyond ended following
+    → SkipsGap left 0 start → SkipsTags left start middle → Reached left at start middle piece ended following
+reached {room} {at} {ended} {left} {beyond} {following} piece start middle gap element skips tags =
     let here = gap_over start gap (element_no_gap element) skips in
-    let there : IsElementAt room piece.kind piece.core piece.start (drop start left) ended behind =
-    subst (λ (a : List ℕ). IsElementAt room piece.kind piece.core piece.start a ended behind) (sym here.1) element in
-    let long : piece.start + middle ≡ piece.core.start + start = tags room piece.start ended piece.kind piece.core behind there in
+    let there : IsElementAt room piece.kind piece.core piece.start (drop start left) ended following =
+    subst (λ (a : List ℕ). IsElementAt room piece.kind piece.core piece.start a ended following) (sym here.1) element in
+    let long : piece.start + middle ≡ piece.core.start + start = tags room piece.start ended piece.kind piece.core following there in
     let c = core_at there in
     let same : drop c.ahead (drop start left) ≡ drop middle left =
     drop-drop c.ahead start left ∙ ap (λ (n : ℕ). drop n left) (omega (arith, long, c.place)) in
-    let inside : IsElementAt room piece.core.kind piece.core piece.core.start (drop middle left) ended behind =
-    subst (λ (a : List ℕ). IsElementAt room piece.core.kind piece.core piece.core.start a ended behind) same c.element in
+    let inside : IsElementAt room piece.core.kind piece.core piece.core.start (drop middle left) ended following =
+    subst (λ (a : List ℕ). IsElementAt room piece.core.kind piece.core piece.core.start a ended following) same c.element in
     record {
       begins = here.0;
       first = element_kind there;
@@ -409,34 +409,34 @@ found_part opener old after start middle end kind inner skips tags ends low high
     let bytes = old.left.now in
     let f = first_of h.elements in
     let r = reached piece start middle f.gap f.element skips tags in
-    let long : piece.core.start + end ≡ f.ended + middle = ends r.room piece.core.start piece.core.start f.ended piece.core.kind piece.core (drop middle bytes) f.behind nothing r.element in
-    let behind : drop end bytes ≡ f.behind =
+    let long : piece.core.start + end ≡ f.ended + middle = ends r.room piece.core.start piece.core.start f.ended piece.core.kind piece.core (drop middle bytes) f.following nothing r.element in
+    let following : drop end bytes ≡ f.following =
     ap (λ (n : ℕ). drop n bytes) (omega (arith, high)) ∙ sym (drop-drop (end - middle) middle bytes) ∙ beyond_element (end - middle) r.element (omega (arith, long, high)) in
     let here = gap_over start f.gap (element_no_gap f.element) skips in
-    let m = moved_element f.element f.behind (λ e. e) in
-    let front : m.place.front ≡ piece.text = cancel_end m.place.front piece.text f.behind (sym m.place.here ∙ f.whole) in
+    let m = moved_element f.element f.following (λ e. e) in
+    let front : m.place.front ≡ piece.text = cancel_end m.place.front piece.text f.following (sym m.place.here ∙ f.whole) in
     let size : end - start ≡ length piece.text = omega (arith, m.place.place, ap length front, long, r.begins, r.core, low, high) in
     let text : take (end - start) (drop start bytes) ≡ piece.text =
-    ap (take (end - start)) (here.1 ∙ f.whole) ∙ ap (λ (n : ℕ). take n (piece.text ++ f.behind)) size ∙ take-append_seam piece.text f.behind in
+    ap (take (end - start)) (here.1 ∙ f.whole) ∙ ap (λ (n : ℕ). take n (piece.text ++ f.following)) size ∙ take-append_seam piece.text f.following in
     let same : found_piece old start middle end kind inner ≡ piece =
     same_piece (found_piece old start middle end kind inner) piece (kind_same (sym first) r.first) r.begins text (kind_same (sym second) r.inner) r.core in
     let ended : after.at ≡ f.ended = omega (arith, at, long, r.core) in
-    let rest : after.left.now ≡ f.behind = left ∙ behind in
+    let rest : after.left.now ≡ f.following = left ∙ following in
     let others : IsElements 63 after.at after.left.now pieces h.ends h.beyond =
     subst (λ (p : ℕ). IsElements 63 p after.left.now pieces h.ends h.beyond) (sym ended) (subst (λ (a : List ℕ). IsElements 63 f.ended a pieces h.ends h.beyond) (sym rest) f.others) in (
       same,
-      record { ends = h.ends; beyond = h.beyond; begins = h.begins; behind = h.behind; after = h.after; bracket = h.bracket; elements = others; gap = h.gap; close = h.close; closes = h.closes },
+      record { ends = h.ends; beyond = h.beyond; begins = h.begins; following = h.following; after = h.after; bracket = h.bracket; elements = others; gap = h.gap; close = h.close; closes = h.closes },
     )
 
 -- an element that was found as one token is the first one, and the others are left
 pub leaf_part : (opener : Opener) (old after : Parts) (front : Lookahead) (kind : ElementKind) → SkipsGap old.left.now 0 front.at → HasToken old.left.now front → front.found.token ≡ Leaf kind
     → after.at ≡ old.at + front.found.end → after.left.now ≡ drop front.found.end old.left.now → (pieces : List ElementModel) → PartsLeft opener old pieces
     → FoundPart opener (found_piece old front.at front.at front.found.end kind kind) after pieces
-leaf_part opener old after front kind skips stands is at left =
+leaf_part opener old after front kind skips present is at left =
     let bytes = old.left.now in
-    let begins : Some kind ≡ kind_token (lexed (drop front.at bytes)).0 = sym (ap kind_token (stands_token bytes front front.at stands refl ∙ is)) in
-    found_part opener old after front.at front.at front.found.end kind kind skips (leaf_core bytes front kind stands is) (leaf_end bytes front kind stands is)
-    (omega arith) (omega (arith, stands.forward)) begins begins at left
+    let begins : Some kind ≡ kind_token (lexed (drop front.at bytes)).0 = sym (ap kind_token (present_token bytes front front.at present refl ∙ is)) in
+    found_part opener old after front.at front.at front.found.end kind kind skips (leaf_core bytes front kind present is) (leaf_end bytes front kind present is)
+    (omega arith) (omega (arith, present.forward)) begins begins at left
 
 pub next_part : (opener : Opener) (after : Parts) (element : Element) (found : ElementModel) → piece_of element ≡ found → (pieces : List ElementModel) → FoundPart opener found after pieces → NextPart opener (Some element) after pieces
 next_part opener after element found same [] h = absurd h
@@ -494,24 +494,24 @@ one_value : (key : List ℕ) (pair : ElementModel × ElementModel) (pairs : List
 one_value key pair pairs true e = rw e refl
 one_value key pair pairs false e = rw e refl
 
-behind : (t : Bool) (x : ElementModel) (a b c : List ElementModel) → a ≡ b ++ c → cond t (x ∷ a) a ≡ cond t (x ∷ b) b ++ c
-behind true x a b c e = ap (λ (xs : List ElementModel). x ∷ xs) e
-behind false x a b c e = e
+following : (t : Bool) (x : ElementModel) (a b c : List ElementModel) → a ≡ b ++ c → cond t (x ∷ a) a ≡ cond t (x ∷ b) b ++ c
+following true x a b c e = ap (λ (xs : List ElementModel). x ∷ xs) e
+following false x a b c e = e
 
-values_behind : (key : List ℕ) (p : ElementModel × ElementModel) (seen more : List (ElementModel × ElementModel)) (values : List ElementModel) (t : Bool) → fits_key key p ≡ t → values_of key (seen ++ more) ≡ values_of key seen ++ values
+values_after : (key : List ℕ) (p : ElementModel × ElementModel) (seen more : List (ElementModel × ElementModel)) (values : List ElementModel) (t : Bool) → fits_key key p ≡ t → values_of key (seen ++ more) ≡ values_of key seen ++ values
     → values_of key (p ∷ seen ++ more) ≡ values_of key (p ∷ seen) ++ values
-values_behind key p seen more values t e h =
-    one_value key p (seen ++ more) t e ∙ behind t p.1 (values_of key (seen ++ more)) (values_of key seen) values h
+values_after key p seen more values t e h =
+    one_value key p (seen ++ more) t e ∙ following t p.1 (values_of key (seen ++ more)) (values_of key seen) values h
     ∙ ap (λ (xs : List ElementModel). xs ++ values) (sym (one_value key p seen t e))
 
 values_more : (key : List ℕ) (seen : List (ElementModel × ElementModel)) (pair : ElementModel × ElementModel) → fits_key key pair ≡ true → values_of key (seen ++ pair ∷ []) ≡ values_of key seen ++ pair.1 ∷ []
 values_more key [] pair e = one_value key pair [] true e
-values_more key (p ∷ seen) pair e = values_behind key p seen (pair ∷ []) (pair.1 ∷ []) (fits_key key p) refl (values_more key seen pair e)
+values_more key (p ∷ seen) pair e = values_after key p seen (pair ∷ []) (pair.1 ∷ []) (fits_key key p) refl (values_more key seen pair e)
 
 values_same : (key : List ℕ) (seen : List (ElementModel × ElementModel)) (pair : ElementModel × ElementModel) → fits_key key pair ≡ false → values_of key (seen ++ pair ∷ []) ≡ values_of key seen
 values_same key [] pair e = one_value key pair [] false e
 values_same key (p ∷ seen) pair e =
-    values_behind key p seen (pair ∷ []) [] (fits_key key p) refl (values_same key seen pair e ∙ sym (append-nil (values_of key seen))) ∙ append-nil (values_of key (p ∷ seen))
+    values_after key p seen (pair ∷ []) [] (fits_key key p) refl (values_same key seen pair e ∙ sym (append-nil (values_of key seen))) ∙ append-nil (values_of key (p ∷ seen))
 
 with_key : (view after : MapView) (key : List ℕ) (found more : Field) (name value : Element) (seen left pairs : List (ElementModel × ElementModel)) → pairs ≡ seen ++ left
     → NextPair (Some (name, value)) after left → IsOf found (values_of key seen) → is_word key (piece_of name) ≡ true
@@ -557,13 +557,13 @@ only_none opener place bytes (piece ∷ pieces) h k =
     let same = none_of h.elements in
     let f = first_of k.elements in
     let low : 63 ≤ 64 = omega arith in
-    let gap : IsGap 63 place bytes h.begins h.behind =
-    subst (λ (p : ℕ). IsGap 63 p bytes h.begins h.behind) (sym same.0) (subst (λ (a : List ℕ). IsGap 63 h.ends a h.begins h.behind) (sym same.1) h.gap) in
+    let gap : IsGap 63 place bytes h.begins h.following =
+    subst (λ (p : ℕ). IsGap 63 p bytes h.begins h.following) (sym same.0) (subst (λ (a : List ℕ). IsGap 63 h.ends a h.begins h.following) (sym same.1) h.gap) in
     absurd (no_first low low f.gap f.element gap h.close)
 
-without_first : {opener : Opener} {place : ℕ} {bytes : List ℕ} {piece : ElementModel} {pieces : List ElementModel} (h : PartsFrom opener place bytes (piece ∷ pieces)) → PartsFrom opener (first_of h.elements).ended (first_of h.elements).behind pieces
+without_first : {opener : Opener} {place : ℕ} {bytes : List ℕ} {piece : ElementModel} {pieces : List ElementModel} (h : PartsFrom opener place bytes (piece ∷ pieces)) → PartsFrom opener (first_of h.elements).ended (first_of h.elements).following pieces
 without_first h =
-    record { ends = h.ends; beyond = h.beyond; begins = h.begins; behind = h.behind; after = h.after; bracket = h.bracket; elements = (first_of h.elements).others; gap = h.gap; close = h.close; closes = h.closes }
+    record { ends = h.ends; beyond = h.beyond; begins = h.begins; following = h.following; after = h.after; bracket = h.bracket; elements = (first_of h.elements).others; gap = h.gap; close = h.close; closes = h.closes }
 
 one_list : (opener : Opener) (place : ℕ) (bytes : List ℕ) (firsts seconds : List ElementModel) → PartsFrom opener place bytes firsts → PartsFrom opener place bytes seconds → firsts ≡ seconds
 one_list opener place bytes [] seconds h k = sym (only_none opener place bytes seconds h k)
@@ -573,9 +573,9 @@ one_list opener place bytes (piece ∷ firsts) (second ∷ seconds) h k =
     let s = first_of k.elements in
     let low : 63 ≤ 64 = omega arith in
     let same = same_first piece second low low f.gap f.element f.whole s.gap s.element s.whole in
-    let moved : PartsFrom opener f.ended f.behind seconds =
-    subst (λ (p : ℕ). PartsFrom opener p f.behind seconds) (sym same.1) (subst (λ (a : List ℕ). PartsFrom opener s.ended a seconds) (sym same.2) (without_first k)) in
-    let others : firsts ≡ seconds = one_list opener f.ended f.behind firsts seconds (without_first h) moved in
+    let moved : PartsFrom opener f.ended f.following seconds =
+    subst (λ (p : ℕ). PartsFrom opener p f.following seconds) (sym same.1) (subst (λ (a : List ℕ). PartsFrom opener s.ended a seconds) (sym same.2) (without_first k)) in
+    let others : firsts ≡ seconds = one_list opener f.ended f.following firsts seconds (without_first h) moved in
     ap (λ (x : ElementModel). x ∷ firsts) same.0 ∙ ap (λ (xs : List ElementModel). second ∷ xs) others
 
 -- a list of keys and values in turn is that of one list of pairs

@@ -83,7 +83,7 @@ pub record CanWantMemory (input : List ℕ) (pieces : List ElementModel) (place 
   pub opener : Opener
   pub inner : ℕ
   pub left : List ℕ
-  pub stands : StandsOpen input pieces opens place bytes
+  pub present : StandsOpen input pieces opens place bytes
   pub begins : IsToken (Opening opener) place bytes inner left
   pub many : 16 ≤ length opens
   pub room : length opens < 64

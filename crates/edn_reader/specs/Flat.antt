@@ -61,7 +61,7 @@ pub record HasRead (map : FlatMap) (pairs : List (ElementModel × ElementModel))
   pub core : IsCoreAt map.bytes.now map.start map.core
   pub bracket : IsToken (Opens Map) (map.base + map.core) (drop map.core map.bytes.now) (suc (map.base + map.core)) (drop (suc map.core) map.bytes.now)
   pub elements : (room : ℕ) → IsElements (suc room) (suc (map.base + map.core)) (drop (suc map.core) map.bytes.now) (in_turn pairs) (map.base + map.at) (drop map.at map.bytes.now)
-  pub behind : map.core < map.at
+  pub following : map.core < map.at
   pub within : map.at ≤ length map.bytes.now
 
 -- the map is read from these bytes, of which the first is at place `base`
@@ -83,7 +83,7 @@ abbrev pub BeginsWithElement : List ℕ → ℕ → ElementModel → Type 0
 BeginsWithElement bytes base piece =
     (base ≤ piece.start) × (piece.start + length piece.text ≤ base + length bytes)
     × (piece.text ≡ drop (piece.start - base) (take (piece.start + length piece.text - base) bytes))
-    × ((behind : List ℕ) → IsElements 64 base (bytes ++ behind) (piece ∷ []) (piece.start + length piece.text) (drop (piece.start + length piece.text - base) bytes ++ behind))
+    × ((following : List ℕ) → IsElements 64 base (bytes ++ following) (piece ∷ []) (piece.start + length piece.text) (drop (piece.start + length piece.text - base) bytes ++ following))
 
 -- what the next part says of a map of which these pairs were read: it has one pair more; or it has ended, with these
 -- pairs; or nothing is said

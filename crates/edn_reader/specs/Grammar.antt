@@ -148,9 +148,9 @@ mutual
     nothing : {room place : ℕ} {bytes : List ℕ} → IsGap room place bytes place bytes
     skipped : {room place inner after : ℕ} {bytes left rest : List ℕ} → IsToken Gap place bytes inner left
         → IsGap room inner left after rest → IsGap room place bytes after rest
-    discarded : {room place inner begins ends after : ℕ} {bytes left beyond behind rest : List ℕ} {kind : ElementKind} {core : Core}
+    discarded : {room place inner begins ends after : ℕ} {bytes left beyond following rest : List ℕ} {kind : ElementKind} {core : Core}
         → IsToken (Opening openers.Discard) place bytes inner left → IsGap room inner left begins beyond
-        → IsElementAt room kind core begins beyond ends behind → IsGap (suc room) ends behind after rest
+        → IsElementAt room kind core begins beyond ends following → IsGap (suc room) ends following after rest
         → IsGap (suc room) place bytes after rest
 
   -- an element of this kind and core (this project's profile of EDN): one token; or elements between brackets that fit;
@@ -158,10 +158,10 @@ mutual
   pub data IsElementAt : ℕ → ElementKind → Core → ℕ → List ℕ → ℕ → List ℕ → Type 0 where
     leaf : {room place after : ℕ} {bytes rest : List ℕ} {kind : ElementKind} → IsToken (Leaf kind) place bytes after rest
         → IsElementAt room kind (record { kind = kind; start = place }) place bytes after rest
-    bracketed : {room place inner ends begins after : ℕ} {bytes left beyond behind rest : List ℕ} {pieces : List ElementModel}
+    bracketed : {room place inner ends begins after : ℕ} {bytes left beyond following rest : List ℕ} {pieces : List ElementModel}
         {opener : Opener} {bracket : Bracket} → IsToken (Opening opener) place bytes inner left
-        → IsElements room inner left pieces ends beyond → IsGap room ends beyond begins behind
-        → IsToken (Closing bracket) begins behind after rest → fits opener bracket ≡ true → is_paired opener && is_odd pieces ≡ false
+        → IsElements room inner left pieces ends beyond → IsGap room ends beyond begins following
+        → IsToken (Closing bracket) begins following after rest → fits opener bracket ≡ true → is_paired opener && is_odd pieces ≡ false
         → IsElementAt (suc room) (kind_of opener) (record { kind = kind_of opener; start = place }) place bytes after rest
     tagged : {room place inner begins after : ℕ} {bytes left beyond rest : List ℕ} {kind : ElementKind} {core : Core}
         → IsToken (Opening openers.Tag) place bytes inner left → IsGap room inner left begins beyond

@@ -15,12 +15,12 @@ pub record PartsFrom (opener : Opener) (place : ℕ) (bytes : List ℕ) (parts :
   pub ends : ℕ
   pub beyond : List ℕ
   pub begins : ℕ
-  pub behind : List ℕ
+  pub following : List ℕ
   pub after : ℕ
   pub bracket : Bracket
   pub elements : IsElements 63 place bytes parts ends beyond
-  pub gap : IsGap 63 ends beyond begins behind
-  pub close : IsToken (Closes bracket) begins behind after []
+  pub gap : IsGap 63 ends beyond begins following
+  pub close : IsToken (Closes bracket) begins following after []
   pub closes : fits opener bracket ≡ true
 
 -- the element without its tags begins with this opener, and these elements, in order, are between its brackets (EDN)

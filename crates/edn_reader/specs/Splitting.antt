@@ -40,7 +40,7 @@ IsFull false begun opens = (opener : Opener) → last begun.part ≡ Opens opene
 pub record IsAfter (bytes input : List ℕ) (pieces : List ElementModel) (splitting : SplitterModel) : Type 0 where
   pub no_fault : splitting.fault ≡ None
   pub taken : splitting.taken ≡ length bytes
-  pub stands : StandsWithin input (length bytes) pieces splitting.opens splitting.begun
+  pub present : StandsWithin input (length bytes) pieces splitting.opens splitting.begun
   pub not_full : IsFull false splitting.begun splitting.opens
 
 -- the splitter has taken the bytes and given these elements, in every input that goes on with the bytes known to come

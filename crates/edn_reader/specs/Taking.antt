@@ -36,15 +36,15 @@ is_tag openers.Tag = true
 is_tag openers.Discard = false
 
 -- the Tagged element of an open tag and of the element after it
-abbrev pub behind_tag : Open → Span → Span
-behind_tag item span = record { kind = Tagged; start = item.place; end = span.end; core = span.core }
+abbrev pub after_tag : Open → Span → Span
+after_tag item span = record { kind = Tagged; start = item.place; end = span.end; core = span.core }
 
 -- what the end of an element leads to: it ends the tags before it too; then it is one more element of the innermost
 -- bracket, or the one of a discard, or an outermost element
 unfoldable pub completed : Span → List Open → Taken
 completed span [] = ends span
 completed span (item ∷ opens) =
-    if is_tag item.opener then completed (behind_tag item span) opens
+    if is_tag item.opener then completed (after_tag item span) opens
     else if waits item.opener then on opens
     else on (with_one item ∷ opens)
 
@@ -98,12 +98,12 @@ pub data LeadsOn : List ℕ → ℕ → List Open → ℕ → List Open → Type
 
 -- the input has this chunk at a place, and these bytes after it
 abbrev pub IsPieceAt : List ℕ → ℕ → List ℕ → List ℕ → Type 0
-IsPieceAt input base piece behind = (base ≤ length input) × (drop base input ≡ piece ++ behind)
+IsPieceAt input base piece following = (base ≤ length input) × (drop base input ≡ piece ++ following)
 
 -- tokens lead from an index of a chunk with these open to another with those open, in every input that has the chunk
 abbrev pub LeadsOver : List ℕ → ℕ → List Open → ℕ → List Open → Type 0
 LeadsOver piece from opens end after =
-    (input : List ℕ) (base : ℕ) (behind : List ℕ) → IsPieceAt input base piece behind → LeadsOn input (base + from) opens (base + end) after
+    (input : List ℕ) (base : ℕ) (following : List ℕ) → IsPieceAt input base piece following → LeadsOn input (base + from) opens (base + end) after
 
 -- what is open, set to hold an odd number of elements or an even one
 abbrev pub item_odd : Bool → Open → Open

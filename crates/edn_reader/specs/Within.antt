@@ -20,7 +20,7 @@ use Rattle.edn_reader.specs.Taking.{IsPieceAt, piece_in}
 -- is what its part makes of the bytes from the place on, whatever they are
 pub record StandsWithin (input : List ℕ) (at : ℕ) (pieces : List ElementModel) (opens : List Open) (begun : Begun) : Type 0 where
   pub low : begun.start ≤ at
-  pub stands : StandsOpen input pieces opens begun.start (drop begun.start input)
+  pub present : StandsOpen input pieces opens begun.start (drop begun.start input)
   pub makes : (more : List ℕ) → lexed (take (at - begun.start) (drop begun.start input) ++ more) ≡ longer (at - begun.start) (resumed begun.part more)
 
 -- the input has one more outermost element after these, at this span
@@ -66,13 +66,13 @@ Reaches input end pieces keep (Err fault) opens = FaultBehind input pieces fault
 -- has begun before that index
 abbrev pub ReadsOn : List ℕ → ℕ → ℕ → List Open → Result Reached EdnFault → List Open → Type 0
 ReadsOn piece base from opens result after =
-    (input behind : List ℕ) (pieces : List ElementModel) → IsPieceAt input base piece behind → StandsOpen input pieces opens (base + from) (drop (base + from) input)
+    (input following : List ℕ) (pieces : List ElementModel) → IsPieceAt input base piece following → StandsOpen input pieces opens (base + from) (drop (base + from) input)
     → Reaches input (base + length piece) pieces (outer opens (base + from)) result after
 
 -- what reading a chunk says (`Reaches`) of each input that has the chunk at this base, with what has begun before it
 abbrev pub ReadsPiece : List ℕ → ℕ → Begun → List Open → Result Reached EdnFault → List Open → Type 0
 ReadsPiece piece base begun opens result after =
-    (input behind : List ℕ) (pieces : List ElementModel) → IsPieceAt input base piece behind → StandsWithin input base pieces opens begun
+    (input following : List ℕ) (pieces : List ElementModel) → IsPieceAt input base piece following → StandsWithin input base pieces opens begun
     → Reaches input (base + length piece) pieces (kept opens begun base) result after
 
 -- an element ended with low < end ≤ high, and nothing is open; or the last token begins with low ≤ start ≤ high

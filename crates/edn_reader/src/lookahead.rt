@@ -72,7 +72,7 @@ fn counts_after(token: Token, counts: OpenCounts) -> OpenCounts
 #[inline(always)]
 fn front_at(bytes: &[u8], at: usize) -> Lookahead
     requires { at < length bytes.now }
-    ensures stands { HasToken bytes.now result }
+    ensures present { HasToken bytes.now result }
     ensures at { result.at ≡ at }
 {
     Lookahead {
@@ -82,7 +82,7 @@ fn front_at(bytes: &[u8], at: usize) -> Lookahead
 }
 
 /// Where the element ends that begins with this token, or that follows the gap which begins with it.
-pub fn end_behind(bytes: &[u8], front: Lookahead) -> usize
+pub fn end_after(bytes: &[u8], front: Lookahead) -> usize
     requires { HasToken bytes.now front }
     ensures end { SkipsElement bytes.now front.at result }
     ensures within { result ≤ length bytes.now }
@@ -115,15 +115,15 @@ fn element_end(bytes: &[u8], from: usize) -> usize
     if from == bytes.len() {
         return from;
     }
-    end_behind(bytes, front_at(bytes, from))
+    end_after(bytes, front_at(bytes, from))
 }
 
 /// The token after the gap at an index; none where the bytes end with the gap.
 #[inline(always)]
-pub fn behind_gap(bytes: &[u8], from: usize) -> Option<Lookahead>
+pub fn after_gap(bytes: &[u8], from: usize) -> Option<Lookahead>
     requires { from ≤ length bytes.now }
     ensures end { MatchOption result (SkipsGap bytes.now from (length bytes.now)) (λ front. SkipsGap bytes.now from front.at) }
-    ensures stands { IfSome result (λ front. HasToken bytes.now front × (from ≤ front.at)) }
+    ensures present { IfSome result (λ front. HasToken bytes.now front × (from ≤ front.at)) }
 {
     let mut at = white_end(bytes, from);
     while at < bytes.len() {
@@ -138,14 +138,14 @@ pub fn behind_gap(bytes: &[u8], from: usize) -> Option<Lookahead>
 }
 
 /// The first token of the element that begins with `first`, once its tags and the gaps after them are passed.
-pub fn behind_tags(bytes: &[u8], first: Lookahead) -> Option<Lookahead>
+pub fn after_tags(bytes: &[u8], first: Lookahead) -> Option<Lookahead>
     requires { HasToken bytes.now first }
     ensures end { MatchOption result (SkipsTags bytes.now first.at (length bytes.now)) (λ front. SkipsTags bytes.now first.at front.at) }
-    ensures stands { IfSome result (λ front. HasToken bytes.now front × (first.at ≤ front.at)) }
+    ensures present { IfSome result (λ front. HasToken bytes.now front × (first.at ≤ front.at)) }
 {
     let mut front = first;
     while is_tag(front.found.token) {
-        match behind_gap(bytes, front.found.end) {
+        match after_gap(bytes, front.found.end) {
             Some(next) => front = next,
             None => return None,
         }

@@ -3,7 +3,7 @@
 ghost use Rattle.std.specs.Prelude.{◌≡◌, ◌+◌, ◌≤◌, ◌<◌, ◌^◌, List, [], ◌∷◌, length, drop, MatchOption, IfSome, Some, None};
 
 use crate::element::{Core, Element, ElementKind};
-use crate::lookahead::{Lookahead, behind_gap, behind_tags, end_behind, kind_of};
+use crate::lookahead::{Lookahead, after_gap, after_tags, end_after, kind_of};
 use crate::token::Token;
 
 #[derive(Clone, Copy)]
@@ -36,7 +36,7 @@ impl<'t> Parts<'t> {
         ensures forward { self.old.at ≤ self.new.at }
     {
         let Parts { left, at } = *self;
-        let first = behind_gap(left, 0)?;
+        let first = after_gap(left, 0)?;
         let kind = match first.found.token {
             Token::Leaf(kind) => kind,
             Token::Closes(_) => return None,
@@ -54,31 +54,31 @@ impl<'t> Parts<'t> {
     fn next_at(&mut self, first: Lookahead) -> Option<Element<'t>>
         requires holds { ∥ HoldsParts self.old ∥₁ }
         requires gap { SkipsGap self.old.left.now 0 first.at }
-        requires stands { HasToken self.old.left.now first }
+        requires present { HasToken self.old.left.now first }
         ensures part { (opener : Opener) (parts : List ElementModel) → PartsLeft opener self.old parts → NextPart opener result self.new parts }
         ensures shrinks { MatchOption result (self.new ≡ self.old) (λ element. part_bytes self.new < part_bytes self.old) }
         ensures forward { self.old.at ≤ self.new.at }
     {
         let mut ahead = *self;
-        let element = ahead.next_behind(first);
+        let element = ahead.next_following(first);
         *self = ahead;
         element
     }
 
     #[inline(never)]
-    fn next_behind(&mut self, first: Lookahead) -> Option<Element<'t>>
+    fn next_following(&mut self, first: Lookahead) -> Option<Element<'t>>
         requires holds { ∥ HoldsParts self.old ∥₁ }
         requires gap { SkipsGap self.old.left.now 0 first.at }
-        requires stands { HasToken self.old.left.now first }
+        requires present { HasToken self.old.left.now first }
         ensures part { (opener : Opener) (parts : List ElementModel) → PartsLeft opener self.old parts → NextPart opener result self.new parts }
         ensures shrinks { MatchOption result (self.new ≡ self.old) (λ element. part_bytes self.new < part_bytes self.old) }
         ensures forward { self.old.at ≤ self.new.at }
     {
         let Parts { left, at } = *self;
-        let inner = behind_tags(left, first)?;
+        let inner = after_tags(left, first)?;
         let kind = kind_of(first.found.token)?;
         let core_kind = kind_of(inner.found.token)?;
-        let end = end_behind(left, inner);
+        let end = end_after(left, inner);
         *self = Parts::new(&left[end..], at + end);
         let core = Core {
             kind: core_kind,

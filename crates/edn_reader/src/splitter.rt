@@ -6,7 +6,6 @@ ghost use Rattle.edn_reader.specs.Splitting.{IsFull};
 use crate::element::{Element, ElementKind};
 use crate::fault::{EdnFault, wanted_at};
 use crate::nesting::Nesting;
-use crate::resume::Part;
 use crate::step::{ROOM, Span, plain_span};
 use crate::token::Token;
 use crate::tokens::{Begun, Reached, read_end, read_piece};
@@ -68,10 +67,7 @@ impl Splitter {
     {
         Splitter {
             nesting: Nesting::new(alloc),
-            begun: Begun {
-                start: 0,
-                part: Part::Nothing,
-            },
+            begun: Begun::nothing(0),
             taken: 0,
             fault: None,
             ended: plain_span(ElementKind::Atom, 0, 0),
@@ -123,10 +119,7 @@ impl Splitter {
             Ok(Reached::Ended(span)) => {
                 self.taken = span.end;
                 self.ended = span;
-                self.begun = Begun {
-                    start: span.end,
-                    part: Part::Nothing,
-                };
+                self.begun = Begun::nothing(span.end);
                 Ok(Taken {
                     used: span.end - base,
                     whole: Some((span.start as u64, span.end as u64)),
@@ -140,10 +133,8 @@ impl Splitter {
                     self.fault = Some(fault);
                     return Err(fault);
                 }
-                Ok(Taken {
-                    used: piece.len(),
-                    whole: None,
-                })
+                let used = piece.len();
+                Ok(Taken { used, whole: None })
             }
             Err(fault) => match wanted_at(fault) {
                 None => {
@@ -155,10 +146,7 @@ impl Splitter {
                         return Err(EdnFault::Memory(base));
                     }
                     self.taken = place;
-                    self.begun = Begun {
-                        start: place,
-                        part: Part::Nothing,
-                    };
+                    self.begun = Begun::nothing(place);
                     Err(EdnFault::Memory(place))
                 }
             },
@@ -185,10 +173,7 @@ impl Splitter {
         let span = element.as_span();
         self.ended = span;
         self.taken = span.end;
-        self.begun = Begun {
-            start: span.end,
-            part: Part::Nothing,
-        };
+        self.begun = Begun::nothing(span.end);
         Taken {
             used: span.end - before,
             whole: Some((span.start as u64, span.end as u64)),
@@ -207,17 +192,11 @@ impl Splitter {
         match read_end(self.taken, self.begun, &mut self.nesting) {
             Ok(Some(span)) => {
                 self.ended = span;
-                self.begun = Begun {
-                    start: self.taken,
-                    part: Part::Nothing,
-                };
+                self.begun = Begun::nothing(self.taken);
                 Ok(Some((span.start as u64, span.end as u64)))
             }
             Ok(None) => {
-                self.begun = Begun {
-                    start: self.taken,
-                    part: Part::Nothing,
-                };
+                self.begun = Begun::nothing(self.taken);
                 Ok(None)
             }
             Err(fault) => match wanted_at(fault) {

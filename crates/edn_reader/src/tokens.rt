@@ -18,6 +18,18 @@ pub struct Begun {
     pub part: Part,
 }
 
+impl Begun {
+    /// Nothing has begun by this place.
+    pub fn nothing(start: usize) -> Begun
+        ensures { result ≡ record { start = start; part = Part.Nothing } }
+    {
+        Begun {
+            start,
+            part: Part::Nothing,
+        }
+    }
+}
+
 /// How far a chunk was read.
 #[derive(Clone, Copy)]
 pub enum Reached {

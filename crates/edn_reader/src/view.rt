@@ -11,7 +11,7 @@ use crate::parts::Parts;
 #[derive(Clone, Copy)]
 pub struct MapView<'t> {
     parts: Parts<'t>,
-    ghost behind: { 0 < parts.at },
+    ghost following: { 0 < parts.at },
     ghost whole: { ∥ HoldsPairs parts.at parts.left.now ∥₁ },
 }
 
@@ -19,7 +19,7 @@ pub struct MapView<'t> {
 #[derive(Clone, Copy)]
 pub struct VectorView<'t> {
     parts: Parts<'t>,
-    ghost behind: { 0 < parts.at },
+    ghost following: { 0 < parts.at },
     ghost whole: { ∥ HoldsMembers parts.at parts.left.now ∥₁ },
 }
 
@@ -30,7 +30,7 @@ impl<'t> MapView<'t> {
     ghost use Rattle.edn_reader.specs.Given.{given, seen};
 
     pub(crate) fn new(parts: Parts<'t>) -> MapView<'t>
-        requires behind { 0 < parts.at }
+        requires following { 0 < parts.at }
         requires whole { ∥ HoldsPairs parts.at parts.left.now ∥₁ }
         ensures { result.parts ≡ parts.entry }
     {
@@ -77,7 +77,7 @@ impl<'t> VectorView<'t> {
     ghost use Rattle.edn_reader.specs.Pairs.{HoldsMembers};
 
     pub(crate) fn new(parts: Parts<'t>) -> VectorView<'t>
-        requires behind { 0 < parts.at }
+        requires following { 0 < parts.at }
         requires whole { ∥ HoldsMembers parts.at parts.left.now ∥₁ }
         ensures { result.parts ≡ parts.entry }
     {

@@ -24,7 +24,7 @@ use Rattle.feeders.proofs.Holding.{from_kept}
 use Rattle.feeders.proofs.Pieces.{AllElements, ahead_none, all_fed, can_lend_last, holds_none, last_text, none_waiting, unwanted, wanted}
 
 up_to_end : (bytes : List ℕ) (pieces : List ElementModel) (splitting : SplitterModel) → StandsAfter bytes [] pieces splitting → IsSplitUpTo bytes bytes pieces splitting
-up_to_end bytes pieces splitting stands = stands bytes [] (sym (append-nil bytes))
+up_to_end bytes pieces splitting present = present bytes [] (sym (append-nil bytes))
 
 unbroken_text : (broken : Option Broken) → broken ≡ None → broke_reading broken ≡ false
 unbroken_text broken is = rw is refl
@@ -40,7 +40,7 @@ ends_none setting bytes mid new pass none pending progress ends fed =
       waiting = [];
       items = fed.items;
       elements = subst (λ (b : Option Broken). AreElements bytes b (fed.pieces ++ [])) (sym broken)
-          (subst (IsText bytes) (sym (append-nil fed.pieces)) (ends bytes fed.pieces (up_to_end bytes fed.pieces mid.splitter taken.stands)).0);
+          (subst (IsText bytes) (sym (append-nil fed.pieces)) (ends bytes fed.pieces (up_to_end bytes fed.pieces mid.splitter taken.present)).0);
       read = fed.read;
       pending = subst (λ (p : Pending). IsPendingAs p setting fed.items [] new pass) (sym (pending ∙ none))
           (refl, subst (λ (p : Progress). IsAt setting.plan setting.start fed.items p pass) (sym progress) (none_waiting setting bytes [] mid pass none fed).1);
@@ -52,7 +52,7 @@ pub ends_one : (setting : Setting) (bytes : List ℕ) (span : ℕ × ℕ) (mid n
     → EndsOn mid.splitter (Ok (Some span)) new.splitter → HasFed setting bytes [] mid pass → IsAtEnd setting bytes new pass
 ends_one setting bytes span mid new pass none pending progress kept ends fed =
     let taken = all_fed setting bytes [] mid pass none fed in
-    let goes = ends bytes fed.pieces (up_to_end bytes fed.pieces mid.splitter taken.stands) in
+    let goes = ends bytes fed.pieces (up_to_end bytes fed.pieces mid.splitter taken.present) in
     let last = goes.3.0 in
     let broken : new.progress.log.broken ≡ None = ap (λ (p : Progress). p.log.broken) progress ∙ fed.unbroken in
     let text : last.text ≡ drop span.0 bytes = last_text bytes (drop span.0 bytes) span.0 span.1 last goes.0 goes.3.1 (ap (drop span.0) (sym (append-nil bytes))) in
@@ -75,7 +75,7 @@ ends_one setting bytes span mid new pass none pending progress kept ends fed =
 pub can_end_one : (span : ℕ × ℕ) (mid new : Intake) → mid.pending ≡ Nothing → new.pending ≡ Whole span.0 → new.progress ≡ mid.progress → new.kept ≡ mid.kept
     → EndsOn mid.splitter (Ok (Some span)) new.splitter → AllElements → CanGoOn [] mid → CanSettle new
 can_end_one span mid new none pending progress kept ends elements can =
-    let before = up_to_end can.bytes can.pieces mid.splitter can.stands in
+    let before = up_to_end can.bytes can.pieces mid.splitter can.present in
     let goes = ends can.bytes can.pieces before in
     let holds = holds_none mid.pending can.bytes mid.kept none can.holds in
     let low : mid.kept.from ≤ span.0 = omega (arith, can.low, goes.1) in
@@ -102,9 +102,9 @@ can_end_none mid new none pending ahead can = record { by = subst (λ (p : Pendi
 
 -- memory was refused at the end, and the splitter is as it was
 pub wants_at_end : (fault : EdnFault) (old new : SplitterModel) → broken_by fault ≡ None → EndsOn old (Err fault) new → (bytes : List ℕ) (pieces : List ElementModel) → StandsAfter bytes [] pieces old → new ≡ old
-wants_at_end fault old new none ends bytes pieces stands =
+wants_at_end fault old new none ends bytes pieces present =
     let at = wanted fault none in
-    let goes = ends bytes pieces (up_to_end bytes pieces old stands) in
+    let goes = ends bytes pieces (up_to_end bytes pieces old present) in
     (subst (λ (w : Option ℕ). MatchOption w ((new.fault ≡ Some fault) × FaultOf bytes fault × AreElementsBefore bytes pieces) (λ place. (new ≡ old) × (place ≡ old.begun.start) × CanWantMemory bytes pieces place)) at.1 goes.1).0
 
 -- the trace breaks at its end
@@ -113,7 +113,7 @@ pub ends_at : (setting : Setting) (bytes : List ℕ) (fault : EdnFault) (broken 
     → EndsOn mid.splitter (Err fault) new.splitter → HasFed setting bytes [] mid pass → IsAtEnd setting bytes new pass
 ends_at setting bytes fault broken mid new pass none pending progress is ends fed =
     let taken = all_fed setting bytes [] mid pass none fed in
-    let goes = ends bytes fed.pieces (up_to_end bytes fed.pieces mid.splitter taken.stands) in
+    let goes = ends bytes fed.pieces (up_to_end bytes fed.pieces mid.splitter taken.present) in
     let met = subst (λ (w : Option ℕ). MatchOption w ((new.splitter.fault ≡ Some fault) × FaultOf bytes fault × AreElementsBefore bytes fed.pieces) (λ place. (new.splitter ≡ mid.splitter) × (place ≡ mid.splitter.begun.start) × CanWantMemory bytes fed.pieces place)) (unwanted fault broken is) goes.1 in
     let set : new.progress.log.broken ≡ Some broken = ap (λ (p : Progress). p.log.broken) progress in
     let at = (none_waiting setting bytes [] mid pass none fed).1 in

@@ -30,8 +30,8 @@ module _ (plan : Plan) (start : Start) (tower : TowerModel) (chosen : MomentFiel
   done : {lines : List Line} {steps : List StepResult} → HasDone plan start old lines steps → HasDone plan start new lines steps
   done has = record { doings = has.doings; done = has.done; feeder_is = feeder ∙ has.feeder_is; of_plan = of has.of_plan; own = λ at lt. same at ∙ has.own at lt }
 
-  behind : {items : List (Result Item FormFault)} {progress : Progress} → IsAt plan start items progress old → IsAt plan start items progress new
-  behind is = record { place = is.place; feeder_is = is.feeder_is; pairing = is.pairing; done = done is.done }
+  following : {items : List (Result Item FormFault)} {progress : Progress} → IsAt plan start items progress old → IsAt plan start items progress new
+  following is = record { place = is.place; feeder_is = is.feeder_is; pairing = is.pairing; done = done is.done }
 
   paired : {items : List (Result Item FormFault)} {item : Result Item FormFault} {step : StepResult} {progress : Progress} → IsPaired plan start items item step progress old
       → IsPaired plan start items item step progress new
@@ -39,9 +39,9 @@ module _ (plan : Plan) (start : Start) (tower : TowerModel) (chosen : MomentFiel
 
   waits : (pending : Pending) (items : List (Result Item FormFault)) (waiting : List ElementModel) (intake : Intake) → IsPendingAs pending setting items waiting intake old
       → IsPendingAs pending setting items waiting intake new
-  waits Nothing items waiting intake is = (is.0, behind is.1)
-  waits (Whole place) items waiting intake is = (is.0, is.1, is.2, behind is.3)
-  waits (Lent item) items waiting intake is = (is.0, is.1, is.2, behind is.3)
+  waits Nothing items waiting intake is = (is.0, following is.1)
+  waits (Whole place) items waiting intake is = (is.0, is.1, is.2, following is.3)
+  waits (Lent item) items waiting intake is = (is.0, is.1, is.2, following is.3)
   waits (Paired step) items waiting intake is = (is.0, is.1, (is.2.0, is.2.1, paired is.2.2))
 
   fed : {bytes next : List ℕ} (intake : Intake) → HasFed setting bytes next intake old → HasFed setting bytes next intake new

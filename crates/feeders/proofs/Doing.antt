@@ -59,14 +59,14 @@ pub goes_on : (plan : Plan) (old new : PassModel) (lines more : List Line) (plac
     → (start : Start) (steps : List StepResult) → place ≡ length steps → HasDone plan start old lines steps → HasDone plan start new more (steps ++ taken_of doing ∷ [])
 goes_on plan old new lines more place doing told_is noted answered start steps at has =
     let many : length has.doings ≡ length steps = sym (length-map has.doings taken_of) ∙ ap length has.done.for_steps in
-    let behind : place ≡ 0 + length has.doings = omega arith in
+    let following : place ≡ 0 + length has.doings = omega arith in
     record {
       doings = has.doings ++ doing ∷ [];
       done = record {
         for_steps = map-append taken_of has.doings (doing ∷ []) ∙ ap (λ (front : List StepResult). front ++ taken_of doing ∷ []) has.done.for_steps;
         noted = noted
             ∙ ap (λ (front : List Line). front ++ lines_at place (what_of doing)) has.done.noted
-            ∙ ap (λ (n : ℕ). lines_from 0 has.doings ++ lines_at n (what_of doing)) behind
+            ∙ ap (λ (n : ℕ). lines_from 0 has.doings ++ lines_at n (what_of doing)) following
             ∙ sym (lines_on 0 has.doings doing);
         answers = each_after_push (IsAnsweredAfter plan start) [] has.doings doing has.done.answers (answered start has.doings has.feeder_is has.own);
       };

@@ -45,20 +45,20 @@ over_fed plan start bytes feeding pass (inr ended) fed = absurd (by_course plan 
 
 -- nothing was taken yet
 pub nothing_taken : (intake : Intake) → ((next : List ℕ) → StandsAfter [] next [] intake.splitter) → AreLastBytes [] intake.kept → intake.progress.place ≡ 0 → HasTaken [] [] [] intake
-nothing_taken intake stands holds place = record {
-  stands = stands [];
+nothing_taken intake present holds place = record {
+  present = present [];
   holds = holds;
   low = omega (arith, holds.long);
   place = omega (arith, place);
 }
 
 pub can_begin : (intake : Intake) → intake.pending ≡ Nothing → ((next : List ℕ) → StandsAfter [] next [] intake.splitter) → AreLastBytes [] intake.kept → intake.progress.place ≡ 0 → IsAhead intake.progress → CanGoOn [] intake
-can_begin intake none stands holds place ahead =
-    let taken : intake.splitter.taken ≡ 0 = taken_is [] [] [] intake.splitter (stands []) in
+can_begin intake none present holds place ahead =
+    let taken : intake.splitter.taken ≡ 0 = taken_is [] [] [] intake.splitter (present []) in
     record {
       bytes = [];
       pieces = [];
-      stands = stands [];
+      present = present [];
       holds = none_holds intake.pending [] intake.kept none holds;
       low = omega (arith, holds.long);
       place = omega (arith, place);
@@ -71,11 +71,11 @@ can_begin intake none stands holds place ahead =
 module _ (setting : Setting) where
   pub fed_nothing : (intake : Intake) (pass : PassModel) → intake.pending ≡ Nothing → ((next : List ℕ) → StandsAfter [] next [] intake.splitter) → AreLastBytes [] intake.kept → intake.progress.place ≡ 0
       → intake.progress.log.broken ≡ None → IsAt setting.plan setting.start [] intake.progress pass → HasFed setting [] [] intake pass
-  fed_nothing intake pass none stands holds place unbroken at = record {
+  fed_nothing intake pass none present holds place unbroken at = record {
     pieces = [];
     waiting = [];
     items = [];
-    taken = nothing_taken intake stands holds place;
+    taken = nothing_taken intake present holds place;
     read = tt;
     pending = subst (λ (p : Pending). IsPendingAs p setting [] [] intake pass) (sym none) (refl, at);
     unbroken = unbroken;
@@ -89,13 +89,13 @@ module _ (setting : Setting) where
       → HasFed setting bytes [] old pass → HasEnded setting bytes new pass
   broke_off bytes broken old new pass none viable so_far reading place lines set fed =
       let taken = all_fed setting bytes [] old pass none fed in
-      let long = taken_is bytes [] fed.pieces old.splitter taken.stands in
+      let long = taken_is bytes [] fed.pieces old.splitter taken.present in
       record {
         items = fed.items;
         are = record {
           pieces = fed.pieces;
           elements = subst (λ (b : Option Broken). AreElements bytes b fed.pieces) (sym set)
-              (inr (reading, place ∙ long, viable bytes fed.pieces old.splitter taken.stands, so_far bytes fed.pieces old.splitter taken.stands));
+              (inr (reading, place ∙ long, viable bytes fed.pieces old.splitter taken.present, so_far bytes fed.pieces old.splitter taken.present));
           read = fed.read;
         };
         done = subst (λ l. HasDone setting.plan setting.start pass l.items (steps_of setting.start.feeder fed.items)) (sym lines) (none_waiting setting bytes [] old pass none fed).1.done;

@@ -22,9 +22,9 @@ use Rattle.feeders.specs.Setting.{Setting}
 use Rattle.feeders.proofs.Settling.{read_ahead}
 
 -- the bytes after the end of what is kept are those of the prefix
-pub front_behind : (kept : TailBuffer) (front : List ℕ) (start end : ℕ) → end ≡ kept.from + length kept.bytes.items → end ≤ start
+pub front_after : (kept : TailBuffer) (front : List ℕ) (start end : ℕ) → end ≡ kept.from + length kept.bytes.items → end ≤ start
     → drop (start - kept.from) (kept.bytes.items ++ front) ≡ drop (start - end) front
-front_behind kept front start end is low =
+front_after kept front start end is low =
     ap (λ (n : ℕ). drop n (kept.bytes.items ++ front)) (omega (arith, is, low))
     ∙ drop-append-add kept.bytes.items front (start - end)
 
@@ -32,7 +32,7 @@ front_behind kept front start end is low =
 pub front_text : (kept : TailBuffer) (front : List ℕ) (start end : ℕ) → end ≡ kept.from + length kept.bytes.items → end ≤ start
     → drop (start - kept.from) (kept.bytes.items ++ front) ≡ take (length front - (start - end)) (drop (start - end) front)
 front_text kept front start end is low =
-    front_behind kept front start end is low
+    front_after kept front start end is low
     ∙ sym (take_all (length front - (start - end)) (drop (start - end) front) (omega (arith, length-drop (start - end) front)))
 
 -- an item that was read with the element is that of its bytes, after what is kept
@@ -43,7 +43,7 @@ pub item_of_front : (tower : TowerModel) (chosen : MomentField) (splitter : Spli
 item_of_front tower chosen splitter None kept front start end is starts after read = read
 item_of_front tower chosen splitter (Some item) kept front start end is starts after read =
     subst (λ (text : List ℕ). IsItemOfLast tower chosen splitter text (Some item))
-    (ap (λ (n : ℕ). drop (n - end) front) starts ∙ sym (front_behind kept front start end is (omega (arith, starts, after)))) read
+    (ap (λ (n : ℕ). drop (n - end) front) starts ∙ sym (front_after kept front start end is (omega (arith, starts, after)))) read
 
 -- the part of a page is the bytes of the element, after what is kept
 pub page_of_front : (page : Option (Bor (List ℕ))) (kept : TailBuffer) (piece : List ℕ) (used start end : ℕ)
@@ -55,7 +55,7 @@ page_of_front (Some text) kept piece used start end is high on =
     on.1
     ∙ sym (drop-take (start - end) (used - (start - end)) piece)
     ∙ ap (λ (n : ℕ). drop (start - end) (take n piece)) (omega (arith, on.0, high))
-    ∙ sym (front_behind kept (take used piece) start end is on.0)
+    ∙ sym (front_after kept (take used piece) start end is on.0)
 
 -- the element waits, and its bytes are kept
 pub whole_waits : (setting : Setting) (items : List (Result Item FormFault)) (pass : PassModel) (old new : Intake) (start : ℕ) (text : List ℕ) (last : ElementModel)
@@ -66,8 +66,8 @@ whole_waits setting items pass old new start text last is text_is at pending sam
     subst (λ (p : Pending). IsPendingAs p setting items (last ∷ []) new pass) (sym pending)
     (last, refl, (subst (λ (s : SplitterModel). IsLast s last) (sym same) is, text_is ∙ sym kept), subst (λ (p : Progress). IsAt setting.plan setting.start items p pass) (sym progress) at)
 
-between_behind : (old new : Intake) (start : ℕ) (front : List ℕ) → CanReadBehind start front old → new.splitter ≡ old.splitter → new.progress.place ≡ old.progress.place → WaitsBetweenElements new
-between_behind old new start front can same place = record {
+between_after : (old new : Intake) (start : ℕ) (front : List ℕ) → CanReadBehind start front old → new.splitter ≡ old.splitter → new.progress.place ≡ old.progress.place → WaitsBetweenElements new
+between_after old new start front can same place = record {
   keep_is = ap keep same ∙ can.keep_is ∙ ap (λ (s : SplitterModel). s.taken) (sym same);
   counted = omega (arith, place, can.counted, ap (λ (s : SplitterModel). s.taken) same);
   fits = omega (arith, can.fits, ap (λ (s : SplitterModel). s.taken) same);
@@ -86,7 +86,7 @@ can_whole old new start front can ahead pending same progress low kept long = re
       starts = ap (λ (s : SplitterModel). s.ended.start) same ∙ can.starts;
       ends = ap (λ (s : SplitterModel). s.taken) same ∙ can.ends ∙ sym long;
     },
-    between_behind old new start front can same (ap (λ (p : Progress). p.place) progress),
+    between_after old new start front can same (ap (λ (p : Progress). p.place) progress),
   );
 }
 
@@ -94,5 +94,5 @@ can_whole old new start front can ahead pending same progress low kept long = re
 pub can_read_at_once : (old new : Intake) (start : ℕ) (front : List ℕ) (setting : Setting) (piece : ElementModel) → CanReadBehind start front old → IsAhead old.progress → new.splitter ≡ old.splitter
     → IsReadAs setting.tower setting.chosen piece old.progress new.progress new.pending → CanSettle new
 can_read_at_once old new start front setting piece can ahead same read = record {
-  by = read_ahead new.pending setting piece old.progress new read ahead (between_behind old new start front can same);
+  by = read_ahead new.pending setting piece old.progress new read ahead (between_after old new start front can same);
 }

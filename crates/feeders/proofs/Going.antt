@@ -15,7 +15,7 @@ use Rattle.logs.specs.declared.log.Code.TheVariants.{Form}
 use Rattle.logs.specs.declared.log.Line.{Line}
 use Rattle.logs.specs.declared.log.Log.{Log}
 use Rattle.feeders.specs.declared.progress.Progress.{Progress}
-use Rattle.logs.specs.Steps.{StepResult, by_pairing, placed, step_behind, steps_of}
+use Rattle.logs.specs.Steps.{StepResult, by_pairing, placed, step_after, steps_of}
 use Rattle.feeders.specs.Progress.{GoesOn, HasDone, IsAt, HasSameLines, IsPaired}
 use Rattle.feeders.specs.Setting.{IsAtStart}
 use Rattle.logs.specs.Start.{Start}
@@ -25,10 +25,10 @@ use Rattle.feeders.proofs.Items.{not_placed, one_step_each, placed_on, steps_on}
 -- before the first element
 pub at_first : (plan : Plan) (start : Start) (pass : PassModel) (progress : Progress) → IsAtStart plan start pass → progress.place ≡ 0 → progress.pairing.feeder ≡ start.feeder
     → KnowsItems progress.pairing [] → progress.log.lines.items ≡ [] → IsAt plan start [] progress pass
-at_first plan start pass progress is place of stands empty = record {
+at_first plan start pass progress is place of present empty = record {
   place = place;
   feeder_is = of;
-  pairing = stands;
+  pairing = present;
   done = nothing_done plan start pass progress.log.lines.items is empty;
 }
 
@@ -38,7 +38,7 @@ further place items item is = omega (arith, is, length_push items item)
 
 -- the steps that were done, with that of one element more
 done_on : (plan : Plan) (start : Start) (items : List (Result Item FormFault)) (item : Result Item FormFault) (old new : PassModel) (log more : Log) (place : ℕ) (step : StepResult)
-    → place ≡ length items → step ≡ step_behind start.feeder items item → GoesOn plan old log new more place step
+    → place ≡ length items → step ≡ step_after start.feeder items item → GoesOn plan old log new more place step
     → HasDone plan start old log.lines.items (steps_of start.feeder items) → HasDone plan start new more.lines.items (steps_of start.feeder (items ++ item ∷ []))
 done_on plan start items item old new log more place step at is goes done =
     subst (HasDone plan start new more.lines.items) (sym (steps_on start.feeder items item))
@@ -63,7 +63,7 @@ pub paired : (plan : Plan) (old : Progress) (pairing : PairingModel) (item : Ite
     → (step ≢ Err pairs.Memory → (items : List Placed) → KnowsItems old.pairing items → KnowsItems pairing (items ++ record { place = old.place; item = item } ∷ []))
     → pairing.feeder ≡ old.pairing.feeder
     → (start : Start) (items : List (Result Item FormFault)) (pass : PassModel) → IsAt plan start items old pass → IsPaired plan start items (Ok item) (by_pairing step) (record old { pairing = pairing }) pass
-paired plan old pairing item step other gives stands same start items pass at =
+paired plan old pairing item step other gives present same start items pass at =
     let is : step ≡ step_of start.feeder (accepted (placed items)) (length items) item =
     gives other (placed items) at.pairing
     ∙ ap (λ (f : ℕ). step_of f (accepted (placed items)) old.place item) at.feeder_is
@@ -72,7 +72,7 @@ paired plan old pairing item step other gives stands same start items pass at =
       place = at.place;
       feeder_is = same ∙ at.feeder_is;
       pairing = subst (KnowsItems pairing) (sym (placed_on items item))
-          (subst (λ (n : ℕ). KnowsItems pairing (placed items ++ record { place = n; item = item } ∷ [])) at.place (stands other (placed items) at.pairing));
+          (subst (λ (n : ℕ). KnowsItems pairing (placed items ++ record { place = n; item = item } ∷ [])) at.place (present other (placed items) at.pairing));
       step_is = ap by_pairing is;
       done = at.done;
     }
@@ -86,17 +86,4 @@ carried plan old pass new log step goes start items item paired = record {
   feeder_is = paired.feeder_is;
   pairing = paired.pairing;
   done = done_on plan start items item pass new old.log log old.place step paired.place paired.step_is goes paired.done;
-}
-
--- or it is not, and the element stays paired
-pub still_paired : (plan : Plan) (old : Progress) (pass new : PassModel) (log : Log) (step : StepResult) → HasSameLines old.log log → new ≡ pass
-    → (start : Start) (items : List (Result Item FormFault)) (item : Result Item FormFault) → IsPaired plan start items item step old pass
-    → IsPaired plan start items item step (record old { log = log }) new
-still_paired plan old pass new log step kept same start items item paired = record {
-  place = paired.place;
-  feeder_is = paired.feeder_is;
-  pairing = paired.pairing;
-  step_is = paired.step_is;
-  done = subst (λ (p : PassModel). HasDone plan start p log.lines.items (steps_of start.feeder items)) (sym same)
-      (subst (λ (lines : List Line). HasDone plan start pass lines (steps_of start.feeder items)) (sym kept.lines) paired.done);
 }

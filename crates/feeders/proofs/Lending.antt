@@ -19,7 +19,7 @@ use Rattle.shards.specs.Plan.{Plan}
 use Rattle.shards.specs.Pass.{PassModel}
 use Rattle.feeders.specs.declared.progress.Progress.{Progress}
 use Rattle.logs.specs.Start.{Start}
-use Rattle.logs.specs.Steps.{StepResult, by_pairing, placed, step_behind}
+use Rattle.logs.specs.Steps.{StepResult, by_pairing, placed, step_after}
 use Rattle.feeders.specs.Texts.{brought, brought_at}
 use Rattle.feeders.specs.Progress.{IsAt, IsPaired}
 use Rattle.feeders.specs.Lending.{LendsNone, is_lent}
@@ -52,9 +52,9 @@ step_lends : (feeder : ℕ) (before : List Placed) (place : ℕ) (item : Item) �
 step_lends feeder before place item none = unless_lends (fault_of before item) (given_by feeder before place item) (given_lends feeder before place item none)
 
 -- nor does the step of such an item after other elements
-pub behind_lends : (feeder : ℕ) (items : List (Result Item FormFault)) (item : Result Item FormFault) → is_lent item ≡ false → LendsNone (step_behind feeder items item)
-behind_lends feeder items (Err fault) none = tt
-behind_lends feeder items (Ok item) none = step_lends feeder (accepted (placed items)) (length items) item none
+pub after_lends : (feeder : ℕ) (items : List (Result Item FormFault)) (item : Result Item FormFault) → is_lent item ≡ false → LendsNone (step_after feeder items item)
+after_lends feeder items (Err fault) none = tt
+after_lends feeder items (Ok item) none = step_lends feeder (accepted (placed items)) (length items) item none
 
 -- an element whose step lends no text was paired, and its step with any lifetime is its step
 pub read_unlent : (plan : Plan) (old new : Progress) (item : Result Item FormFault) (step told : StepResult)
@@ -63,5 +63,5 @@ pub read_unlent : (plan : Plan) (old new : Progress) (item : Result Item FormFau
     → (start : Start) (items : List (Result Item FormFault)) (pass : PassModel) → IsAt plan start items old pass → IsPaired plan start items item told new pass
 read_unlent plan old new item step told none unlent paired start items pass at =
     let is = paired plan start items pass at in
-    let lends : LendsNone step = subst LendsNone (sym is.step_is) (behind_lends start.feeder items item none) in
+    let lends : LendsNone step = subst LendsNone (sym is.step_is) (after_lends start.feeder items item none) in
     subst (λ (s : StepResult). IsPaired plan start items item s new pass) (sym (unlent lends)) is

@@ -18,7 +18,7 @@ use Rattle.pairing.specs.Answering.{step_register}
 use Rattle.pairing.specs.Step.{step_of}
 use Rattle.shards.specs.Plan.{Plan, claims_of}
 use Rattle.feeders.specs.Progress.{IsKnownStep}
-use Rattle.logs.specs.Steps.{StepResult, by_pairing, placed, placed_from, step_behind}
+use Rattle.logs.specs.Steps.{StepResult, by_pairing, placed, placed_from, step_after}
 
 -- the laws of the crates below
 abbrev pub ItemsName : Type 0
@@ -43,7 +43,7 @@ known_by plan (Ok (Some (steps.Edit register edit))) on = on (steps.Edit registe
 known_by plan (Ok (Some (steps.Ask register))) on = on (steps.Ask register) refl
 
 pub known_step : (plan : Plan) (tower : TowerModel) (chosen : MomentField) → ItemsName → StepsAreOn → (feeder : ℕ) (pieces : List ElementModel) (items : List (Result Item FormFault)) (last : ElementModel)
-    (item : Result Item FormFault) (step : StepResult) → plan.claims ≡ claims_of tower → AllZip (IsItem tower chosen) pieces items → IsItem tower chosen last item → step ≡ step_behind feeder items item
+    (item : Result Item FormFault) (step : StepResult) → plan.claims ≡ claims_of tower → AllZip (IsItem tower chosen) pieces items → IsItem tower chosen last item → step ≡ step_after feeder items item
     → IsKnownStep plan step
 known_step plan tower chosen name on feeder pieces items last (Err fault) step claims read is step_is = subst (IsKnownStep plan) (sym step_is) tt
 known_step plan tower chosen name on feeder pieces items last (Ok item) step claims read is step_is =

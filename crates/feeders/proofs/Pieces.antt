@@ -28,11 +28,11 @@ use Rattle.feeders.proofs.Holding.{drop_twice}
 
 -- more bytes that come next may be named
 pub known_more : (bytes next rest : List ℕ) (pieces : List ElementModel) (splitting : SplitterModel) → StandsAfter bytes next pieces splitting → StandsAfter bytes (next ++ rest) pieces splitting
-known_more bytes next rest pieces splitting stands = λ input more is. stands input (rest ++ more) (is ∙ ap (λ (xs : List ℕ). bytes ++ xs) (append_assoc next rest more))
+known_more bytes next rest pieces splitting present = λ input more is. present input (rest ++ more) (is ∙ ap (λ (xs : List ℕ). bytes ++ xs) (append_assoc next rest more))
 
 pub taken_more : (bytes next rest : List ℕ) (pieces : List ElementModel) (intake : Intake) → HasTaken bytes next pieces intake → HasTaken bytes (next ++ rest) pieces intake
 taken_more bytes next rest pieces intake taken = record {
-  stands = known_more bytes next rest pieces intake.splitter taken.stands;
+  present = known_more bytes next rest pieces intake.splitter taken.present;
   holds = taken.holds;
   low = taken.low;
   place = taken.place;
@@ -42,7 +42,7 @@ pub can_more : (next rest : List ℕ) (intake : Intake) → CanGoOn next intake 
 can_more next rest intake can = record {
   bytes = can.bytes;
   pieces = can.pieces;
-  stands = known_more can.bytes next rest can.pieces intake.splitter can.stands;
+  present = known_more can.bytes next rest can.pieces intake.splitter can.present;
   holds = can.holds;
   low = can.low;
   place = can.place;
@@ -54,7 +54,7 @@ can_more next rest intake can = record {
 
 -- how many bytes were taken
 pub taken_is : (bytes next : List ℕ) (pieces : List ElementModel) (splitting : SplitterModel) → StandsAfter bytes next pieces splitting → splitting.taken ≡ length bytes
-taken_is bytes next pieces splitting stands = (stands (bytes ++ (next ++ [])) [] refl).taken
+taken_is bytes next pieces splitting present = (present (bytes ++ (next ++ [])) [] refl).taken
 
 -- the bytes of an element that ends within a chunk
 pub span_text : (bytes piece : List ℕ) (used start end : ℕ) → end ≡ length bytes + used → start ≤ end → take (end - start) (drop start (bytes ++ piece)) ≡ drop start (bytes ++ take used piece)
@@ -62,10 +62,6 @@ span_text bytes piece used start end is within =
     sym (drop-take start (end - start) (bytes ++ piece))
     ∙ ap (λ (n : ℕ). drop start (take n (bytes ++ piece))) (omega (arith, is, within))
     ∙ ap (drop start) (take-append-add bytes piece used)
-
-pub text_ends : (bytes piece text : List ℕ) (used start : ℕ) → text ≡ drop start (bytes ++ take used piece) → used ≤ length piece → start ≤ length bytes + used → start + length text ≡ length bytes + used
-text_ends bytes piece text used start is most within =
-    omega (arith, ap length is, length-drop start (bytes ++ take used piece), length-append bytes (take used piece), length-take-le used piece most, within)
 
 take_rest : (start end : ℕ) (bytes : List ℕ) → end ≡ length bytes → take (end - start) (drop start bytes) ≡ drop start bytes
 take_rest start end bytes is = ap (λ (n : ℕ). take n (drop start bytes)) (omega (arith, is, length-drop start bytes)) ∙ take-length (drop start bytes)
@@ -88,16 +84,16 @@ none_kept bytes kept from holds = holds.last ∙ ap (λ (n : ℕ). drop n bytes)
 pub took : (bytes piece next : List ℕ) (pieces : List ElementModel) (used : ℕ) (new : Intake)
     → StandsAfter (bytes ++ take used piece) (drop used piece ++ next) pieces new.splitter → AreLastBytes (bytes ++ take used piece) new.kept
     → new.kept.from ≤ keep new.splitter → new.progress.place ≤ keep new.splitter → HasTaken (bytes ++ take used piece) (drop used piece ++ next) pieces new
-took bytes piece next pieces used new stands holds low place = record { stands = stands; holds = holds; low = low; place = place }
+took bytes piece next pieces used new present holds low place = record { present = present; holds = holds; low = low; place = place }
 
 -- a whole chunk was taken, and no element ended
-pub all_stands : (bytes piece next : List ℕ) (pieces : List ElementModel) (used : ℕ) (new : SplitterModel) → used ≡ length piece → StandsAfter (bytes ++ piece) next pieces new
+pub all_present : (bytes piece next : List ℕ) (pieces : List ElementModel) (used : ℕ) (new : SplitterModel) → used ≡ length piece → StandsAfter (bytes ++ piece) next pieces new
     → StandsAfter (bytes ++ take used piece) (drop used piece ++ next) pieces new
-all_stands bytes piece next pieces used new is stands =
+all_present bytes piece next pieces used new is present =
     let all : take used piece ≡ piece = ap (λ (n : ℕ). take n piece) is ∙ take-length piece in
     let none : drop used piece ≡ [] = ap (λ (n : ℕ). drop n piece) is ∙ drop-length piece in
     subst (λ (xs : List ℕ). StandsAfter (bytes ++ xs) (drop used piece ++ next) pieces new) (sym all)
-    (subst (λ (xs : List ℕ). StandsAfter (bytes ++ piece) (xs ++ next) pieces new) (sym none) stands)
+    (subst (λ (xs : List ℕ). StandsAfter (bytes ++ piece) (xs ++ next) pieces new) (sym none) present)
 
 pub all_held : (bytes piece : List ℕ) (used : ℕ) (kept : TailBuffer) → used ≡ length piece → AreLastBytes (bytes ++ piece) kept → AreLastBytes (bytes ++ take used piece) kept
 all_held bytes piece used kept is holds = subst (λ (xs : List ℕ). AreLastBytes (bytes ++ xs) kept) (sym (ap (λ (n : ℕ). take n piece) is ∙ take-length piece)) holds
@@ -105,10 +101,10 @@ all_held bytes piece used kept is holds = subst (λ (xs : List ℕ). AreLastByte
 -- the intake can go on with the bytes that are left
 pub goes_on : (bytes left : List ℕ) (pieces : List ElementModel) (new : Intake) → StandsAfter bytes (left ++ []) pieces new.splitter → HoldsAs new.pending bytes new.kept
     → new.kept.from ≤ keep new.splitter → new.progress.place ≤ keep new.splitter → new.progress.place ≤ new.splitter.taken → new.splitter.taken < 2 ^ 64 → IsTight new → CanSettle new → CanGoOn left new
-goes_on bytes left pieces new stands holds low place counted fits tight settle = record {
+goes_on bytes left pieces new present holds low place counted fits tight settle = record {
   bytes = bytes;
   pieces = pieces;
-  stands = subst (λ (next : List ℕ). StandsAfter bytes next pieces new.splitter) (append-nil left) stands;
+  present = subst (λ (next : List ℕ). StandsAfter bytes next pieces new.splitter) (append-nil left) present;
   holds = holds;
   low = low;
   place = place;
@@ -132,8 +128,8 @@ ahead_none intake can is = subst (λ (p : Pending). CanSettleAs p intake) is can
 pub taken_beside : (bytes next : List ℕ) (pieces : List ElementModel) (old new : Intake) → IsBeside old new → new.progress.place ≤ keep old.splitter → HasTaken bytes next pieces old
     → HasTaken bytes next pieces new
 taken_beside bytes next pieces old new beside place taken = record {
-  stands = subst (StandsAfter bytes next pieces) (sym beside.splitter) taken.stands;
-  holds = beside.holds bytes (sym (taken_is bytes next pieces old.splitter taken.stands)) taken.holds;
+  present = subst (StandsAfter bytes next pieces) (sym beside.splitter) taken.present;
+  holds = beside.holds bytes (sym (taken_is bytes next pieces old.splitter taken.present)) taken.holds;
   low = subst (λ (s : SplitterModel). new.kept.from ≤ keep s) (sym beside.splitter) (beside.low taken.low);
   place = subst (λ (s : SplitterModel). new.progress.place ≤ keep s) (sym beside.splitter) place;
 }
@@ -142,8 +138,8 @@ pub can_beside : (next : List ℕ) (old new : Intake) → IsBeside old new → n
 can_beside next old new beside place counted settle can = record {
   bytes = can.bytes;
   pieces = can.pieces;
-  stands = subst (StandsAfter can.bytes next can.pieces) (sym beside.splitter) can.stands;
-  holds = beside.holds_as can.bytes (sym (taken_is can.bytes next can.pieces old.splitter can.stands)) can.holds;
+  present = subst (StandsAfter can.bytes next can.pieces) (sym beside.splitter) can.present;
+  holds = beside.holds_as can.bytes (sym (taken_is can.bytes next can.pieces old.splitter can.present)) can.holds;
   low = subst (λ (s : SplitterModel). new.kept.from ≤ keep s) (sym beside.splitter) (beside.low can.low);
   place = subst (λ (s : SplitterModel). new.progress.place ≤ keep s) (sym beside.splitter) place;
   counted = subst (λ (s : SplitterModel). new.progress.place ≤ s.taken) (sym beside.splitter) counted;
@@ -304,7 +300,7 @@ module _ (setting : Setting) where
       → HasFed setting bytes next old pass → HasBroken setting (bytes ++ next) new pass
   broke_at bytes next fault broken old new pass was faulty is lines set fed = λ trace more same.
       let taken = all_fed bytes next old pass was fed in
-      let met = (faulty fed.pieces taken.stands).1 trace more (same ∙ append_assoc bytes next more) in
+      let met = (faulty fed.pieces taken.present).1 trace more (same ∙ append_assoc bytes next more) in
       record {
         items = fed.items;
         are = record {

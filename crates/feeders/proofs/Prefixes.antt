@@ -34,7 +34,7 @@ use Rattle.shards.specs.Plain.{PlainLent, PlainEdit, amend, plain_lent, plain_ed
 use Rattle.logs.specs.declared.log.Broken.{Broken}
 use Rattle.logs.specs.Broken.{AreElements}
 use Rattle.feeders.specs.Readers.{broke_reading}
-use Rattle.logs.specs.Steps.{AreItemsOfTrace, StepResult, placed, placed_from, by_pairing, step_behind, steps_behind, steps_of}
+use Rattle.logs.specs.Steps.{AreItemsOfTrace, StepResult, placed, placed_from, by_pairing, step_after, steps_after, steps_of}
 use Rattle.feeders.specs.Prefixes.{PlainTaken, edit, plain_step, plain_taken, plain_steps}
 
 -- ---- texts in one place of memory
@@ -227,10 +227,10 @@ same_step feeder all place item =
     ap (λ (fault : Option PairFault). plain_taken (by_pairing (unless fault (given_by feeder (map placed_here all) place (item_here item))))) (same_fault all item)
     ∙ same_unless (fault_of all item) (given_by feeder (map placed_here all) place (item_here item)) (given_by feeder all place item) (same_given feeder all place item)
 
-same_behind : (feeder : ℕ) (before : List (Result Item FormFault)) (item : Result Item FormFault)
-    → plain_taken (step_behind feeder (map answer_here before) (answer_here item)) ≡ plain_taken (step_behind feeder before item)
-same_behind feeder before (Err fault) = refl
-same_behind feeder before (Ok item) =
+same_after : (feeder : ℕ) (before : List (Result Item FormFault)) (item : Result Item FormFault)
+    → plain_taken (step_after feeder (map answer_here before) (answer_here item)) ≡ plain_taken (step_after feeder before item)
+same_after feeder before (Err fault) = refl
+same_after feeder before (Ok item) =
     let count = length (map answer_here before) in
     ap (λ (xs : List Placed). plain_taken (by_pairing (step_of feeder (accepted xs) count (item_here item)))) (placed_from_here 0 before)
     ∙ ap (λ (xs : List Placed). plain_taken (by_pairing (step_of feeder xs count (item_here item)))) (accepted_here (placed before))
@@ -238,12 +238,12 @@ same_behind feeder before (Ok item) =
     ∙ same_step feeder (accepted (placed before)) (length before) item
 
 same_steps : (feeder : ℕ) (before items : List (Result Item FormFault))
-    → map plain_taken (steps_behind feeder (map answer_here before) (map answer_here items)) ≡ map plain_taken (steps_behind feeder before items)
+    → map plain_taken (steps_after feeder (map answer_here before) (map answer_here items)) ≡ map plain_taken (steps_after feeder before items)
 same_steps feeder before [] = refl
 same_steps feeder before (item ∷ items) =
-    ap (λ (step : PlainTaken). step ∷ map plain_taken (steps_behind feeder (map answer_here before ++ answer_here item ∷ []) (map answer_here items))) (same_behind feeder before item)
-    ∙ ap (λ (xs : List (Result Item FormFault)). plain_taken (step_behind feeder before item) ∷ map plain_taken (steps_behind feeder xs (map answer_here items))) (sym (map-append answer_here before (item ∷ [])))
-    ∙ ap (λ (rest : List PlainTaken). plain_taken (step_behind feeder before item) ∷ rest) (same_steps feeder (before ++ item ∷ []) items)
+    ap (λ (step : PlainTaken). step ∷ map plain_taken (steps_after feeder (map answer_here before ++ answer_here item ∷ []) (map answer_here items))) (same_after feeder before item)
+    ∙ ap (λ (xs : List (Result Item FormFault)). plain_taken (step_after feeder before item) ∷ map plain_taken (steps_after feeder xs (map answer_here items))) (sym (map-append answer_here before (item ∷ [])))
+    ∙ ap (λ (rest : List PlainTaken). plain_taken (step_after feeder before item) ∷ rest) (same_steps feeder (before ++ item ∷ []) items)
 
 -- ---- the items of a prefix of a trace
 
@@ -283,16 +283,16 @@ first_items one tower chosen (piece ∷ second ∷ pieces) (other ∷ all) (item
 
 -- ---- the steps of a prefix of a trace
 
-steps_append : (feeder : ℕ) (before xs ys : List (Result Item FormFault)) → steps_behind feeder before (xs ++ ys) ≡ steps_behind feeder before xs ++ steps_behind feeder (before ++ xs) ys
-steps_append feeder before [] ys = ap (λ (all : List (Result Item FormFault)). steps_behind feeder all ys) (sym (append-nil before))
+steps_append : (feeder : ℕ) (before xs ys : List (Result Item FormFault)) → steps_after feeder before (xs ++ ys) ≡ steps_after feeder before xs ++ steps_after feeder (before ++ xs) ys
+steps_append feeder before [] ys = ap (λ (all : List (Result Item FormFault)). steps_after feeder all ys) (sym (append-nil before))
 steps_append feeder before (x ∷ xs) ys =
-    ap (λ (rest : List StepResult). step_behind feeder before x ∷ rest) (steps_append feeder (before ++ x ∷ []) xs ys)
-    ∙ ap (λ (all : List (Result Item FormFault)). (step_behind feeder before x ∷ steps_behind feeder (before ++ x ∷ []) xs) ++ steps_behind feeder all ys) (append_assoc before (x ∷ []) xs)
+    ap (λ (rest : List StepResult). step_after feeder before x ∷ rest) (steps_append feeder (before ++ x ∷ []) xs ys)
+    ∙ ap (λ (all : List (Result Item FormFault)). (step_after feeder before x ∷ steps_after feeder (before ++ x ∷ []) xs) ++ steps_after feeder all ys) (append_assoc before (x ∷ []) xs)
 
 first_steps : (feeder : ℕ) (items others rest : List (Result Item FormFault)) → map answer_here others ≡ map answer_here items ++ rest
     → (later : List PlainTaken) × (plain_steps feeder others ≡ plain_steps feeder items ++ later)
 first_steps feeder items others rest e =
-    let later = steps_behind feeder (map answer_here items) rest in (
+    let later = steps_after feeder (map answer_here items) rest in (
       map plain_taken later,
       sym (same_steps feeder [] others) ∙ ap (λ (xs : List (Result Item FormFault)). map plain_taken (steps_of feeder xs)) e
           ∙ ap (map plain_taken) (steps_append feeder [] (map answer_here items) rest) ∙ map-append plain_taken (steps_of feeder (map answer_here items)) later

@@ -21,44 +21,6 @@ use Rattle.logs.specs.Start.{Start}
 use Rattle.logs.specs.Steps.{StepResult}
 use Rattle.feeders.proofs.Naming.{ItemsName, StepsAreOn, known_step}
 
--- nothing was done
-pub beside_self : (intake : Intake) → IsBeside intake intake
-beside_self intake = record { splitter = refl; broken = refl; holds = λ bytes long holds. holds; holds_as = λ bytes long holds. holds; low = λ low. low; tight = λ tight. tight }
-
-pub beside_twice : (old mid new : Intake) → IsBeside old mid → IsBeside mid new → IsBeside old new
-beside_twice old mid new first second =
-    let taken : mid.splitter.taken ≡ old.splitter.taken = ap (λ (s : SplitterModel). s.taken) first.splitter in
-    let kept : keep mid.splitter ≡ keep old.splitter = ap keep first.splitter in
-    record {
-      splitter = second.splitter ∙ first.splitter;
-      broken = second.broken ∙ first.broken;
-      holds = λ bytes long holds. second.holds bytes (long ∙ sym taken) (first.holds bytes long holds);
-      holds_as = λ bytes long holds. second.holds_as bytes (long ∙ sym taken) (first.holds_as bytes long holds);
-      low = λ low. subst (λ (n : ℕ). new.kept.from ≤ n) kept (second.low (subst (λ (n : ℕ). mid.kept.from ≤ n) (sym kept) (first.low low)));
-      tight = λ tight. second.tight (first.tight tight);
-    }
-
--- no element waits to be read
-pub paired_next : (pending : Pending) → ((start : ℕ) → pending ≡ Whole start → ⊥) → IsToBePaired pending
-paired_next Nothing other = tt
-paired_next (Whole start) other = absurd (other start refl)
-paired_next (Lent item) other = tt
-paired_next (Paired step) other = tt
-
--- no element waits to be read or to be paired
-pub carried_next : (pending : Pending) → IsToBePaired pending → ((item : Result Item FormFault) → pending ≡ Lent item → ⊥) → IsToBeCarriedOut pending
-carried_next Nothing read other = tt
-carried_next (Whole start) read other = read
-carried_next (Lent item) read other = absurd (other item refl)
-carried_next (Paired step) read other = tt
-
--- no element waits
-pub nothing_next : (pending : Pending) → IsToBeCarriedOut pending → ((step : StepResult) → pending ≡ Paired step → ⊥) → pending ≡ Nothing
-nothing_next Nothing paired other = refl
-nothing_next (Whole start) paired other = absurd paired
-nothing_next (Lent item) paired other = absurd paired
-nothing_next (Paired step) paired other = absurd (other step refl)
-
 -- the element that waited was read
 pub read_as : (pending : Pending) (setting : Setting) (items : List (Result Item FormFault)) (waiting : List ElementModel) (pass : PassModel) (old : Progress) (new : Intake) (piece last : ElementModel)
     → IsReadAs setting.tower setting.chosen piece old new.progress pending → piece ≡ last → waiting ≡ last ∷ [] → IsAt setting.plan setting.start items old pass
@@ -91,20 +53,6 @@ read_count (Whole start) setting piece old new read = absurd read
 read_count (Lent item) setting piece old new read = refl
 read_count (Paired step) setting piece old new read = refl
 
--- the element was read from the kept bytes, which are dropped, and it can be carried out
-pub can_read_on : (old new : Intake) (start : ℕ) (setting : Setting) (piece : ElementModel) → CanSettle old → old.pending ≡ Whole start → new.splitter ≡ old.splitter
-    → IsReadAs setting.tower setting.chosen piece old.progress new.progress new.pending → new.progress.place ≡ old.progress.place → CanSettle new
-can_read_on old new start setting piece can is same read place =
-    let by = subst (λ (p : Pending). CanSettleAs p old) is can.by in
-    record {
-      by = read_ahead new.pending setting piece old.progress new read by.0
-          (λ _. record {
-            keep_is = ap keep same ∙ by.2.keep_is ∙ ap (λ (s : SplitterModel). s.taken) (sym same);
-            counted = omega (arith, place, by.2.counted, ap (λ (s : SplitterModel). s.taken) same);
-            fits = omega (arith, by.2.fits, ap (λ (s : SplitterModel). s.taken) same);
-          });
-    }
-
 read_broken : (pending : Pending) (setting : Setting) (piece : ElementModel) (old new : Progress) → IsReadAs setting.tower setting.chosen piece old new pending
     → (new.log.broken ≡ old.log.broken) × (new.place ≡ old.place)
 read_broken Nothing setting piece old new read = absurd read
@@ -128,25 +76,6 @@ tight_any (Whole start) intake empty = tt
 tight_any (Lent item) intake empty = λ _. empty
 tight_any (Paired step) intake empty = λ _. empty
 
--- where the element that waits is not read from the kept bytes, these are none between two elements
-tight_on : (old new : Intake) → new.splitter ≡ old.splitter → new.kept ≡ old.kept → (keep old.splitter ≡ old.splitter.taken → old.kept.bytes.items ≡ [])
-    → keep new.splitter ≡ new.splitter.taken → new.kept.bytes.items ≡ []
-tight_on old new same kept tight between =
-    ap (λ (k : TailBuffer). k.bytes.items) kept ∙ tight (sym (ap keep same) ∙ between ∙ ap (λ (s : SplitterModel). s.taken) same)
-
-pub beside_read : (old new : Intake) (start : ℕ) → CanSettle old → old.pending ≡ Whole start → new.splitter ≡ old.splitter → new.progress.log.broken ≡ old.progress.log.broken
-    → ((taken : List ℕ) → length taken ≡ old.splitter.taken → AreLastBytes taken new.kept) → new.kept.from ≡ old.splitter.taken → new.kept.bytes.items ≡ [] → IsBeside old new
-beside_read old new start can is same broken holds from empty =
-    let by = subst (λ (p : Pending). CanSettleAs p old) is can.by in
-    record {
-      splitter = same;
-      broken = broken;
-      holds = λ bytes long _. holds bytes long;
-      holds_as = λ bytes long _. holds_any new.pending bytes new.kept (holds bytes long);
-      low = λ _. omega (arith, from, by.2.keep_is);
-      tight = λ _. tight_any new.pending new empty;
-    }
-
 -- what was read is paired
 pub pair_waits : (setting : Setting) (items : List (Result Item FormFault)) (waiting : List ElementModel) (pass : PassModel) (old new : Intake) (item : Result Item FormFault) (step : StepResult)
     → old.pending ≡ Lent item → new.pending ≡ Paired step
@@ -156,104 +85,6 @@ pair_waits setting items waiting pass old new item step was is paired pending =
     let waits = subst (λ (p : Pending). IsPendingAs p setting items waiting old pass) was pending in
     subst (λ (p : Pending). IsPendingAs p setting items waiting new pass) (sym is)
     (waits.0, waits.1, (item, waits.2, paired setting.plan setting.start items pass waits.3))
-
-pub can_pair_on : (old new : Intake) (item : Result Item FormFault) (step : StepResult) → CanSettle old → old.pending ≡ Lent item → new.pending ≡ Paired step → new.splitter ≡ old.splitter
-    → new.progress.place ≡ old.progress.place → PairedUpTo new.progress → CanSettle new
-can_pair_on old new item step can was is same place up =
-    let by = subst (λ (p : Pending). CanSettleAs p old) was can.by in
-    record {
-      by = subst (λ (p : Pending). CanSettleAs p new) (sym is) (
-        up,
-        record {
-          keep_is = ap keep same ∙ by.1.keep_is ∙ ap (λ (s : SplitterModel). s.taken) (sym same);
-          counted = omega (arith, place, by.1.counted, ap (λ (s : SplitterModel). s.taken) same);
-          fits = omega (arith, by.1.fits, ap (λ (s : SplitterModel). s.taken) same);
-        },
-      );
-    }
-
-pub ahead_lent : (old : Intake) (item : Result Item FormFault) → CanSettle old → old.pending ≡ Lent item → IsAhead old.progress
-ahead_lent old item can was = (subst (λ (p : Pending). CanSettleAs p old) was can.by).0
-
-pub beside_pair : (old new : Intake) (item : Result Item FormFault) (step : StepResult) → old.pending ≡ Lent item → new.pending ≡ Paired step → new.splitter ≡ old.splitter
-    → new.progress.log.broken ≡ old.progress.log.broken → new.kept ≡ old.kept → IsBeside old new
-beside_pair old new item step was is same broken kept = record {
-  splitter = same;
-  broken = broken;
-  holds = λ bytes long holds. subst (AreLastBytes bytes) (sym kept) holds;
-  holds_as = λ bytes long holds.
-      subst (λ (p : Pending). HoldsAs p bytes new.kept) (sym is) (subst (AreLastBytes bytes) (sym kept) (subst (λ (p : Pending). HoldsAs p bytes old.kept) was holds));
-  low = λ low. subst (λ (k : TailBuffer). k.from ≤ keep old.splitter) (sym kept) low;
-  tight = λ tight. subst (λ (p : Pending). IsTightAs p new) (sym is) (tight_on old new same kept (subst (λ (p : Pending). IsTightAs p old) was tight));
-}
-
--- what was paired is carried out
-pub carried_out : (setting : Setting) (items : List (Result Item FormFault)) (waiting : List ElementModel) (old : Intake) (pass after : PassModel) (new : Progress) (step : StepResult)
-    → old.pending ≡ Paired step
-    → ((start : Start) (items : List (Result Item FormFault)) (item : Result Item FormFault) → IsPaired setting.plan start items item step old.progress pass → IsAt setting.plan start (items ++ item ∷ []) new after)
-    → IsPending setting items waiting old pass → AreSettled setting items waiting new after
-carried_out setting items waiting old pass after new step was done pending =
-    let waits = subst (λ (p : Pending). IsPendingAs p setting items waiting old pass) was pending in
-    (waits.2.0 ∷ [], subst (λ (ps : List ElementModel). AllZip (IsItem setting.tower setting.chosen) ps (waits.2.0 ∷ [])) (sym waits.1) (waits.2.1, tt), done setting.start items waits.2.0 waits.2.2)
-
--- nothing waits
-pub none_waits : (setting : Setting) (items : List (Result Item FormFault)) (waiting : List ElementModel) (old : Intake) (pass : PassModel) → old.pending ≡ Nothing
-    → IsPending setting items waiting old pass → AreSettled setting items waiting old.progress pass
-none_waits setting items waiting old pass was pending =
-    let waits = subst (λ (p : Pending). IsPendingAs p setting items waiting old pass) was pending in (
-      [],
-      subst (λ (ps : List ElementModel). AllZip (IsItem setting.tower setting.chosen) ps []) (sym waits.0) tt,
-      subst (λ (is : List (Result Item FormFault)). IsAt setting.plan setting.start is old.progress pass) (sym (append-nil items)) waits.1,
-    )
-
-pub still_waits : (setting : Setting) (items : List (Result Item FormFault)) (waiting : List ElementModel) (pass after : PassModel) (old new : Intake) (step : StepResult)
-    → old.pending ≡ Paired step → new.pending ≡ Paired step
-    → ((items : List (Result Item FormFault)) (item : Result Item FormFault) → IsPaired setting.plan setting.start items item step old.progress pass → IsPaired setting.plan setting.start items item step new.progress after)
-    → IsPending setting items waiting old pass → IsPending setting items waiting new after
-still_waits setting items waiting pass after old new step was is kept pending =
-    let waits = subst (λ (p : Pending). IsPendingAs p setting items waiting old pass) was pending in
-    subst (λ (p : Pending). IsPendingAs p setting items waiting new after) (sym is)
-    (waits.0, waits.1, (waits.2.0, waits.2.1, kept items waits.2.0 waits.2.2))
-
-pub paired_fits : (old : Intake) (step : StepResult) → CanSettle old → old.pending ≡ Paired step → PairedUpTo old.progress × (old.progress.place + 1 < 2 ^ 64)
-paired_fits old step can was =
-    let by = subst (λ (p : Pending). CanSettleAs p old) was can.by in
-    (by.0, omega (arith, by.1.counted, by.1.fits))
-
-pub can_carry_on : (old new : Intake) → CanSettle old → new.splitter ≡ old.splitter → new.pending ≡ Nothing → IsAhead new.progress → CanSettle new
-can_carry_on old new can same is ahead = record {
-  by = subst (λ (p : Pending). CanSettleAs p new) (sym is) ahead;
-}
-
-pub can_wait_on : (old new : Intake) (step : StepResult) → CanSettle old → old.pending ≡ Paired step → new.pending ≡ Paired step → new.splitter ≡ old.splitter
-    → new.progress.place ≡ old.progress.place → PairedUpTo new.progress → CanSettle new
-can_wait_on old new step can was is same place up =
-    let by = subst (λ (p : Pending). CanSettleAs p old) was can.by in
-    record {
-      by = subst (λ (p : Pending). CanSettleAs p new) (sym is) (
-        up,
-        record {
-          keep_is = ap keep same ∙ by.1.keep_is ∙ ap (λ (s : SplitterModel). s.taken) (sym same);
-          counted = omega (arith, place, by.1.counted, ap (λ (s : SplitterModel). s.taken) same);
-          fits = omega (arith, by.1.fits, ap (λ (s : SplitterModel). s.taken) same);
-        },
-      );
-    }
-
-tight_either : (pending : Pending) (intake : Intake) (step : StepResult) → (pending ≡ Nothing) ⊎ (pending ≡ Paired step) → (keep intake.splitter ≡ intake.splitter.taken → intake.kept.bytes.items ≡ []) → IsTightAs pending intake
-tight_either pending intake step (inl is) tight = subst (λ (p : Pending). IsTightAs p intake) (sym is) tight
-tight_either pending intake step (inr is) tight = subst (λ (p : Pending). IsTightAs p intake) (sym is) tight
-
-pub beside_carry : (old new : Intake) (step : StepResult) → old.pending ≡ Paired step → (new.pending ≡ Nothing) ⊎ (new.pending ≡ Paired step) → new.splitter ≡ old.splitter
-    → new.progress.log.broken ≡ old.progress.log.broken → new.kept ≡ old.kept → IsBeside old new
-beside_carry old new step was is same broken kept = record {
-  splitter = same;
-  broken = broken;
-  holds = λ bytes long holds. subst (AreLastBytes bytes) (sym kept) holds;
-  holds_as = λ bytes long holds. holds_any new.pending bytes new.kept (subst (AreLastBytes bytes) (sym kept) (subst (λ (p : Pending). HoldsAs p bytes old.kept) was holds));
-  low = λ low. subst (λ (k : TailBuffer). k.from ≤ keep old.splitter) (sym kept) low;
-  tight = λ tight. tight_either new.pending new step is (tight_on old new same kept (subst (λ (p : Pending). IsTightAs p old) was tight));
-}
 
 -- the register of the step that waits is one of the plan's, and the pass is the plan's
 pub waits_known : (setting : Setting) (items : List (Result Item FormFault)) (waiting pieces : List ElementModel) (old : Intake) (pass : PassModel) (step : StepResult) → ItemsName → StepsAreOn

@@ -7,16 +7,16 @@ use Rattle.std.specs.Io.KnownBytes.{Keeps, Consumes}
 use Rattle.feeders.specs.Source.{AreBytesOf}
 
 -- the prefix of what a read gave, of a reader that kept its bytes until then
-pub front_given : (first before until after : Option (List ℕ)) (bytes read behind : List ℕ) (room count : ℕ) → AreBytesOf first bytes before false → Keeps before until → Consumes until after (take count read)
-    → room < count → count ≤ length read → AreBytesOf first (bytes ++ take room (read ++ behind)) after true
-front_given None before until after bytes read behind room count given kept more some there = tt
-front_given (Some all) None until after bytes read behind room count given kept more some there = absurd (none-some given.0 given.1)
-front_given (Some all) (Some left) None after bytes read behind room count given kept more some there = absurd kept
-front_given (Some all) (Some left) (Some still) None bytes read behind room count given kept more some there = absurd more
-front_given (Some all) (Some left) (Some still) (Some rest) bytes read behind room count given kept more some there =
-    let front = take room (read ++ behind) in
+pub front_given : (first before until after : Option (List ℕ)) (bytes read following : List ℕ) (room count : ℕ) → AreBytesOf first bytes before false → Keeps before until → Consumes until after (take count read)
+    → room < count → count ≤ length read → AreBytesOf first (bytes ++ take room (read ++ following)) after true
+front_given None before until after bytes read following room count given kept more some there = tt
+front_given (Some all) None until after bytes read following room count given kept more some there = absurd (none-some given.0 given.1)
+front_given (Some all) (Some left) None after bytes read following room count given kept more some there = absurd kept
+front_given (Some all) (Some left) (Some still) None bytes read following room count given kept more some there = absurd more
+front_given (Some all) (Some left) (Some still) (Some rest) bytes read following room count given kept more some there =
+    let front = take room (read ++ following) in
     let others = drop room (take count read) in
-    let same : take room (take count read) ≡ front = take-take room count read (omega (arith, some)) ∙ sym (take-append-le room read behind (omega (arith, some, there))) in
+    let same : take room (take count read) ≡ front = take-take room count read (omega (arith, some)) ∙ sym (take-append-le room read following (omega (arith, some, there))) in
     let parted : take count read ≡ front ++ others = sym (take-append-drop room (take count read)) ∙ ap (λ (l : List ℕ). l ++ others) same in
     let had : given.0 ≡ front ++ (others ++ rest) = sym (same_Some left given.0 given.1) ∙ sym kept ∙ more ∙ ap (λ (l : List ℕ). l ++ rest) parted ∙ append_assoc front others rest in
     let whole : all ≡ (bytes ++ front) ++ (others ++ rest) = given.2 ∙ ap (λ (l : List ℕ). bytes ++ l) had ∙ sym (append_assoc bytes front (others ++ rest)) in
@@ -32,8 +32,3 @@ pub read_after_used : (used count : ℕ) (old read rest : List ℕ) → used ≤
 read_after_used used count old read rest within few =
     subst (λ (n : ℕ). take (n + count) (take used old ++ (read ++ rest)) ≡ take used old ++ take count (read ++ rest)) (length-take-le used old within) (take-append-add (take used old) (read ++ rest) count)
     ∙ ap (λ (l : List ℕ). take used old ++ l) (take-append-le count read rest few)
-
--- where more than the greatest number of bytes was there, all of that number were given
-pub more_than_given : (limit : ℕ) (first left : Option (List ℕ)) (bytes : List ℕ) → length bytes ≡ limit → AreBytesOf first bytes left true → IfSome first (λ all. limit < length all)
-more_than_given limit None left bytes full given = tt
-more_than_given limit (Some all) left bytes full given = omega (arith, full, ap length given.1, length-append bytes given.0, given.2)

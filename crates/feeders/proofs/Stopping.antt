@@ -25,15 +25,6 @@ refusal_stops plan pass register (shards.PassMissing feeder) of known is = absur
 refusal_stops plan pass register (shards.Stranger shard feeder number) of known is = absurd is
 refusal_stops plan pass register shards.ForeignPass of known is = absurd (is of)
 
--- a refusal for another cause than memory ends in another fault than memory
-pub no_memory : (fault : ShardFault) → fault ≢ shards.Memory → ended_by fault ≢ Memory
-no_memory shards.UnknownRegister other is = absurd cc
-no_memory shards.Memory other is = other refl
-no_memory (shards.JournalBehind shard seen found) other is = absurd cc
-no_memory (shards.PassMissing feeder) other is = absurd cc
-no_memory (shards.Stranger shard feeder number) other is = absurd cc
-no_memory shards.ForeignPass other is = absurd cc
-
 -- a feeder stops where the register of its step refuses the call, and its pass is as it was
 pub may_stop : (plan : Plan) (old new : PassModel) (log log' : Log) (register : ℕ) (result : Result (Unit {0}) RunFault) → IfErr result (IsEndedBy plan old register) → OnErr result ((log' ≡ log) × (new ≡ old))
     → IfErr result (λ fault. IsPassOf plan old → register < length plan.claims → MayStop plan new fault)

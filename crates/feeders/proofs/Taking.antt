@@ -21,14 +21,14 @@ use Rattle.feeders.specs.Pending.{CanReadBehind, CanSettle, CanSettleAs, IsBesid
 use Rattle.feeders.specs.Progress.{IsAhead, IsAt}
 use Rattle.feeders.specs.Setting.{Setting}
 use Rattle.feeders.proofs.Holding.{drop_twice, with_piece}
-use Rattle.feeders.proofs.Pieces.{AllElements, all_fed, all_held, all_stands, can_beside, can_lend, counted_on, fed_all, fed_one, goes_on, holds_none, holds_same, known_more, none_holds, taken_is, told_text, took, unwanted, wanted, none_kept}
+use Rattle.feeders.proofs.Pieces.{AllElements, all_fed, all_held, all_present, can_beside, can_lend, counted_on, fed_all, fed_one, goes_on, holds_none, holds_same, known_more, none_holds, taken_is, told_text, took, unwanted, wanted, none_kept}
 use Rattle.feeders.proofs.Settling.{holds_any}
 
 -- the first `used` bytes of a chunk were taken, and no element ended in them
 pub record TookNone (piece : List ℕ) (used : ℕ) (old new : Intake) : Type 0 where
   pub within : used ≤ length piece
   pub taken : new.splitter.taken ≡ old.splitter.taken + used
-  pub stands : (bytes next : List ℕ) (pieces : List ElementModel) → StandsAfter bytes (piece ++ next) pieces old.splitter
+  pub present : (bytes next : List ℕ) (pieces : List ElementModel) → StandsAfter bytes (piece ++ next) pieces old.splitter
       → StandsAfter (bytes ++ take used piece) (drop used piece ++ next) pieces new.splitter × (keep old.splitter ≤ keep new.splitter)
   pub holds : (taken : List ℕ) → AreLastBytes taken old.kept → AreLastBytes (taken ++ take used piece) new.kept
   pub low : old.kept.from ≤ keep new.splitter → new.kept.from ≤ keep new.splitter
@@ -60,13 +60,13 @@ pub takes_all : (piece : List ℕ) (used : ℕ) (old new : Intake) → (used ≤
     → (CanGoOn piece old) → ((taken : List ℕ) → AreLastBytes taken old.kept → AreLastBytes (taken ++ piece) new.kept) → (old.kept.from ≤ keep new.splitter → new.kept.from ≤ keep new.splitter)
     → LetsGo (keep new.splitter) (length piece) old.kept new.kept → old.pending ≡ Nothing → new.progress ≡ old.progress → new.pending ≡ Nothing → old.splitter.taken + length piece < 2 ^ 64 → TookNone piece used old new
 takes_all piece used old new counted takes can holds low lets none progress pending fits =
-    let all : used ≡ length piece = (takes can.bytes [] can.pieces (known_more can.bytes piece [] can.pieces old.splitter can.stands)).0 in
+    let all : used ≡ length piece = (takes can.bytes [] can.pieces (known_more can.bytes piece [] can.pieces old.splitter can.present)).0 in
     let held = holds_none old.pending can.bytes old.kept none can.holds in
-    let long : old.splitter.taken ≡ length can.bytes = taken_is can.bytes piece can.pieces old.splitter can.stands in
+    let long : old.splitter.taken ≡ length can.bytes = taken_is can.bytes piece can.pieces old.splitter can.present in
     record {
       within = counted.0;
       taken = counted.1;
-      stands = λ bytes next pieces stands. let goes = takes bytes next pieces stands in (all_stands bytes piece next pieces used new.splitter goes.0 goes.1, goes.2);
+      present = λ bytes next pieces present. let goes = takes bytes next pieces present in (all_present bytes piece next pieces used new.splitter goes.0 goes.1, goes.2);
       holds = λ taken held. all_held taken piece used new.kept all (holds taken held);
       low = low;
       tight = nothing_open (can.bytes ++ piece) (length piece) old new lets (held.long ∙ sym long) (omega (arith, counted.1, all)) (omega (arith, counted.1, all, long, length-append can.bytes piece)) (holds can.bytes held);
@@ -82,18 +82,18 @@ pub takes_some : (piece : List ℕ) (used place : ℕ) (old new : Intake)
     → (old.kept.from ≤ keep new.splitter → new.kept.from ≤ keep new.splitter) → LetsGo (keep new.splitter) used old.kept new.kept → old.pending ≡ Nothing → new.progress ≡ old.progress → new.pending ≡ Nothing
     → old.splitter.taken + length piece < 2 ^ 64 → TookNone piece used old new
 takes_some piece used place old new takes can is holds low lets none progress pending fits =
-    let more = known_more can.bytes piece [] can.pieces old.splitter can.stands in
+    let more = known_more can.bytes piece [] can.pieces old.splitter can.present in
     let goes = (takes can.bytes [] can.pieces more).1 in
-    let long : old.splitter.taken ≡ length can.bytes = taken_is can.bytes piece can.pieces old.splitter can.stands in
+    let long : old.splitter.taken ≡ length can.bytes = taken_is can.bytes piece can.pieces old.splitter can.present in
     let held = holds_none old.pending can.bytes old.kept none can.holds in
     let within : used ≤ length piece = omega (arith, is, goes.0, goes.1, goes.2, long) in
     let taken : new.splitter.taken ≡ old.splitter.taken + used = omega (arith, is, goes.0, goes.2, long) in
     record {
       within = within;
       taken = taken;
-      stands = λ bytes next pieces stands.
-          let wants = takes bytes next pieces stands in
-          let many : old.splitter.taken ≡ length bytes = taken_is bytes (piece ++ next) pieces old.splitter stands in
+      present = λ bytes next pieces present.
+          let wants = takes bytes next pieces present in
+          let many : old.splitter.taken ≡ length bytes = taken_is bytes (piece ++ next) pieces old.splitter present in
           (subst (λ (n : ℕ). StandsAfter (bytes ++ take n piece) (drop n piece ++ next) pieces new.splitter) (omega (arith, is, wants.1.2, many)) wants.1.3, wants.0);
       holds = holds;
       low = low;
@@ -105,8 +105,8 @@ takes_some piece used place old new takes can is holds low lets none progress pe
 
 pub used_on : (piece : List ℕ) (used : ℕ) (old new : Intake) → TookNone piece used old new → old.pending ≡ Nothing → CanGoOn piece old → HasUsed piece old used new
 used_on piece used old new on none can =
-    let more = known_more can.bytes piece [] can.pieces old.splitter can.stands in
-    let goes = on.stands can.bytes [] can.pieces more in
+    let more = known_more can.bytes piece [] can.pieces old.splitter can.present in
+    let goes = on.present can.bytes [] can.pieces more in
     let place : new.progress.place ≡ old.progress.place = ap (λ (p : Progress). p.place) on.progress in
     record {
       within = on.within;
@@ -122,7 +122,7 @@ pub fed_on : (setting : Setting) (piece : List ℕ) (used : ℕ) (old new : Inta
     → HasFed setting bytes (piece ++ next) old pass → HasFed setting (bytes ++ take used piece) (drop used piece ++ next) new pass
 fed_on setting piece used old new pass bytes next on none fed =
     let taken = all_fed setting bytes (piece ++ next) old pass none fed in
-    let goes = on.stands bytes next fed.pieces taken.stands in
+    let goes = on.present bytes next fed.pieces taken.present in
     fed_all setting bytes (piece ++ next) (bytes ++ take used piece) (drop used piece ++ next) old new pass none on.pending on.progress fed
     (took bytes piece next fed.pieces used new goes.0 (on.holds bytes taken.holds) (on.low (omega (arith, taken.low, goes.1)))
     (omega (arith, ap (λ (p : Progress). p.place) on.progress, taken.place, goes.1)))
@@ -133,16 +133,16 @@ pub wants_memory : (fault : EdnFault) (old new : SplitterModel) (piece : List �
 wants_memory fault old new piece none takes =
     let at = wanted fault none in (
       at.0,
-      λ bytes next pieces stands.
-          let goes = takes bytes next pieces stands in
+      λ bytes next pieces present.
+          let goes = takes bytes next pieces present in
           (goes.0, subst (λ (w : Option ℕ). MatchOption w (KeepsFault bytes (piece ++ next) pieces fault new) (λ place. WantsMemory bytes piece next pieces place new)) at.1 goes.1),
     )
 
 -- the text has a fault in a chunk
 pub keeps_fault : (fault : EdnFault) (broken : Broken) (old new : SplitterModel) (piece : List ℕ) → broken_by fault ≡ Some broken → SplitsOn piece old (Err fault) new
     → (bytes next : List ℕ) (pieces : List ElementModel) → StandsAfter bytes (piece ++ next) pieces old → KeepsFault bytes (piece ++ next) pieces fault new
-keeps_fault fault broken old new piece is takes bytes next pieces stands =
-    subst (λ (w : Option ℕ). MatchOption w (KeepsFault bytes (piece ++ next) pieces fault new) (λ place. WantsMemory bytes piece next pieces place new)) (unwanted fault broken is) (takes bytes next pieces stands).1
+keeps_fault fault broken old new piece is takes bytes next pieces present =
+    subst (λ (w : Option ℕ). MatchOption w (KeepsFault bytes (piece ++ next) pieces fault new) (λ place. WantsMemory bytes piece next pieces place new)) (unwanted fault broken is) (takes bytes next pieces present).1
 
 -- the buffer has another capacity
 pub fed_roomed : (setting : Setting) (bytes next : List ℕ) (old new : Intake) (pass : PassModel) → old.pending ≡ Nothing → new.pending ≡ old.pending → new.progress ≡ old.progress → new.splitter ≡ old.splitter
@@ -151,7 +151,7 @@ fed_roomed setting bytes next old new pass none pending progress splitter from i
     let taken = all_fed setting bytes next old pass none fed in
     fed_all setting bytes next bytes next old new pass none (pending ∙ none) progress fed
     (record {
-      stands = subst (StandsAfter bytes next fed.pieces) (sym splitter) taken.stands;
+      present = subst (StandsAfter bytes next fed.pieces) (sym splitter) taken.present;
       holds = holds_same bytes old.kept new.kept from items taken.holds;
       low = omega (arith, from, taken.low, ap keep splitter);
       place = omega (arith, ap (λ (p : Progress). p.place) progress, taken.place, ap keep splitter);
@@ -167,13 +167,13 @@ front_is : (bytes piece : List ℕ) (used start : ℕ) (kept : TailBuffer) → A
 front_is bytes piece used start kept holds low = with_piece bytes (take used piece) kept.bytes.items kept.from start (omega (arith, holds.long)) low holds.last
 
 -- the element that ended can be read
-pub can_read_behind : (piece : List ℕ) (used : ℕ) (span : ℕ × ℕ) (old mid : Intake) → EndsOne piece used span old mid → AllElements → (used ≤ length piece) × (mid.splitter.taken ≡ old.splitter.taken + used)
+pub can_read_after : (piece : List ℕ) (used : ℕ) (span : ℕ × ℕ) (old mid : Intake) → EndsOne piece used span old mid → AllElements → (used ≤ length piece) × (mid.splitter.taken ≡ old.splitter.taken + used)
     → mid.kept.from ≡ old.kept.from → mid.kept.bytes.items ≡ old.kept.bytes.items → mid.progress ≡ old.progress → old.pending ≡ Nothing → CanGoOn piece old → old.splitter.taken + length piece < 2 ^ 64
     → CanReadBehind span.0 (take used piece) mid
-can_read_behind piece used span old mid takes elements counted from items progress none can fits =
-    let more = known_more can.bytes piece [] can.pieces old.splitter can.stands in
+can_read_after piece used span old mid takes elements counted from items progress none can fits =
+    let more = known_more can.bytes piece [] can.pieces old.splitter can.present in
     let goes = takes can.bytes [] can.pieces more in
-    let long : old.splitter.taken ≡ length can.bytes = taken_is can.bytes piece can.pieces old.splitter can.stands in
+    let long : old.splitter.taken ≡ length can.bytes = taken_is can.bytes piece can.pieces old.splitter can.present in
     let holds : AreLastBytes can.bytes mid.kept = holds_same can.bytes old.kept mid.kept from items (holds_none old.pending can.bytes old.kept none can.holds) in
     let many : length (take used piece) ≡ used = length-take-le used piece counted.0 in
     let low : mid.kept.from ≤ span.0 = omega (arith, from, can.low, goes.2) in
@@ -212,7 +212,7 @@ taken_one piece used span old mid new bytes next pieces is takes holds long plac
     let kept : keep new.splitter ≡ keep mid.splitter = ap keep is.splitter in
     let place : mid.progress.place ≡ old.progress.place = ap (λ (p : Progress). p.place) is.progress in
     record {
-      stands = subst (StandsAfter (bytes ++ take used piece) (drop used piece ++ next) (pieces ++ takes.4.0 ∷ [])) (sym is.splitter) takes.4.2;
+      present = subst (StandsAfter (bytes ++ take used piece) (drop used piece ++ next) (pieces ++ takes.4.0 ∷ [])) (sym is.splitter) takes.4.2;
       holds = is.holds bytes (holds_same bytes old.kept mid.kept is.from is.items holds);
       low = omega (arith, is.low, kept, takes.3, takes.1, is.counted.1, long);
       place = omega (arith, is.place, place, placed, takes.2, takes.4.1.1, takes.3, kept);
@@ -220,16 +220,16 @@ taken_one piece used span old mid new bytes next pieces is takes holds long plac
 
 pub used_one : (piece : List ℕ) (used : ℕ) (span : ℕ × ℕ) (old mid new : Intake) → IsTaken piece used old mid new → EndsOne piece used span old mid → old.pending ≡ Nothing → CanGoOn piece old → HasUsed piece old used new
 used_one piece used span old mid new is takes none can =
-    let more = known_more can.bytes piece [] can.pieces old.splitter can.stands in
+    let more = known_more can.bytes piece [] can.pieces old.splitter can.present in
     let goes = takes can.bytes [] can.pieces more in
-    let long : old.splitter.taken ≡ length can.bytes = taken_is can.bytes piece can.pieces old.splitter can.stands in
+    let long : old.splitter.taken ≡ length can.bytes = taken_is can.bytes piece can.pieces old.splitter can.present in
     let taken = taken_one piece used span old mid new can.bytes [] can.pieces is goes (holds_none old.pending can.bytes old.kept none can.holds) long can.place in
     let same : new.splitter.taken ≡ mid.splitter.taken = ap (λ (s : SplitterModel). s.taken) is.splitter in
     let place : mid.progress.place ≡ old.progress.place = ap (λ (p : Progress). p.place) is.progress in
     record {
       within = is.counted.0;
       taken = same ∙ is.counted.1;
-      can = goes_on (can.bytes ++ take used piece) (drop used piece) (can.pieces ++ goes.4.0 ∷ []) new taken.stands (holds_any new.pending (can.bytes ++ take used piece) new.kept taken.holds) taken.low taken.place
+      can = goes_on (can.bytes ++ take used piece) (drop used piece) (can.pieces ++ goes.4.0 ∷ []) new taken.present (holds_any new.pending (can.bytes ++ take used piece) new.kept taken.holds) taken.low taken.place
           (omega (arith, is.place, place, can.counted, same, is.counted.1)) (omega (arith, same, is.fits)) is.tight is.can;
     }
 
@@ -240,8 +240,8 @@ pub fed_taken : (setting : Setting) (piece : List ℕ) (used : ℕ) (span : ℕ 
     → HasFed setting bytes (piece ++ next) old pass → HasFed setting (bytes ++ take used piece) (drop used piece ++ next) new pass
 fed_taken setting piece used span old mid new pass bytes next is takes elements none waits fed =
     let taken = all_fed setting bytes (piece ++ next) old pass none fed in
-    let goes = takes bytes next fed.pieces taken.stands in
-    let long : old.splitter.taken ≡ length bytes = taken_is bytes (piece ++ next) fed.pieces old.splitter taken.stands in
+    let goes = takes bytes next fed.pieces taken.present in
+    let long : old.splitter.taken ≡ length bytes = taken_is bytes (piece ++ next) fed.pieces old.splitter taken.present in
     let last = goes.4.0 in
     let holds : AreLastBytes bytes mid.kept = holds_same bytes old.kept mid.kept is.from is.items taken.holds in
     let text = told_text bytes piece next (drop span.0 (bytes ++ take used piece)) fed.pieces used span old.splitter mid.splitter goes refl in

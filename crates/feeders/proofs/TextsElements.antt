@@ -10,8 +10,8 @@ use Rattle.logs.specs.Broken.{AreElements}
 use Rattle.feeders.specs.Texts.{IsSlice}
 
 -- an element after a prefix of the input
-slice_behind : (input front left : List ℕ) (piece : ElementModel) (beyond : List ℕ) → input ≡ front ++ left → piece.start ≡ length front → left ≡ piece.text ++ beyond → IsSlice input piece
-slice_behind input front left piece beyond is at whole =
+slice_after : (input front left : List ℕ) (piece : ElementModel) (beyond : List ℕ) → input ≡ front ++ left → piece.start ≡ length front → left ≡ piece.text ++ beyond → IsSlice input piece
+slice_after input front left piece beyond is at whole =
     ap (λ (bytes : List ℕ). take (length piece.text) bytes)
     (ap (drop piece.start) is ∙ ap (λ (n : ℕ). drop n (front ++ left)) at ∙ drop-append_seam front left ∙ whole)
     ∙ take-append_seam piece.text beyond
@@ -24,9 +24,9 @@ slices {bytes = bytes} (next {left = left} {beyond = beyond} {piece = piece} gap
     let e = (moved_element element beyond (λ h. h)).place in
     let before : input ≡ (front ++ g.front) ++ left = is ∙ ap (λ (s : List ℕ). front ++ s) g.here ∙ sym (append_assoc front g.front left) in
     let start : piece.start ≡ length (front ++ g.front) = omega (arith, g.place, at, length-append front g.front) in
-    let behind : input ≡ ((front ++ g.front) ++ e.front) ++ beyond = before ∙ ap (λ (s : List ℕ). (front ++ g.front) ++ s) e.here ∙ sym (append_assoc (front ++ g.front) e.front beyond) in (
-      slice_behind input (front ++ g.front) left piece beyond before start whole,
-      slices els input ((front ++ g.front) ++ e.front) behind (omega (arith, e.place, start, length-append (front ++ g.front) e.front)),
+    let following : input ≡ ((front ++ g.front) ++ e.front) ++ beyond = before ∙ ap (λ (s : List ℕ). (front ++ g.front) ++ s) e.here ∙ sym (append_assoc (front ++ g.front) e.front beyond) in (
+      slice_after input (front ++ g.front) left piece beyond before start whole,
+      slices els input ((front ++ g.front) ++ e.front) following (omega (arith, e.place, start, length-append (front ++ g.front) e.front)),
     )
 
 -- the elements that have ended, whatever follows them

@@ -6,7 +6,7 @@ use Rattle.std.specs.List.{slice_get}
 use Rattle.std.proofs.lemmas.Bool.{eq-eqb}
 use Rattle.intervals.specs.declared.operation.OpId.{OpId}
 use Rattle.intervals.specs.declared.operation.RegId.{RegId}
-use Rattle.intervals.specs.declared.operation.Parts.{Parts}
+use Rattle.intervals.specs.declared.operation.OpParts.{OpParts}
 use Rattle.intervals.specs.declared.edit.Edit.{Edit}
 use Rattle.intervals.specs.declared.edit.Edit.TheVariants as edits
 use Rattle.intervals.specs.declared.edit.Lent.{Lent}
@@ -73,7 +73,7 @@ IsPlainPlaced place (claim_to kind) = Unit {0}
 abbrev bytes_of : Option (Bor (List ℕ)) → Option (List ℕ)
 bytes_of text = option_map (λ t. t.now) text
 
-text_reads : (part : TextKind) (parts : Parts) → plain_text_of part (plain_parts parts) ≡ bytes_of (text_of part parts)
+text_reads : (part : TextKind) (parts : OpParts) → plain_text_of part (plain_parts parts) ≡ bytes_of (text_of part parts)
 text_reads invocation parts = refl
 text_reads answer parts = refl
 text_reads amendment parts = refl

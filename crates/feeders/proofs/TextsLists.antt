@@ -46,9 +46,9 @@ filter_map_has {X = X} {Y = Y} f (x ∷ xs) y k e = by_option (f x) refl (λ m g
     by_option (Some z) is rest zero g = (0, x, refl, is ∙ g)
     by_option (Some z) is rest (suc m) g = let r = rest m g in (suc r.0, r.1, r.2, r.3)
 
-pub get_behind : {X : Type 0} (before : List X) (x : X) (after : List X) → slice_get (before ++ x ∷ after) (length before) ≡ Some x
-get_behind [] x after = refl
-get_behind (y ∷ before) x after = get_behind before x after
+pub get_after : {X : Type 0} (before : List X) (x : X) (after : List X) → slice_get (before ++ x ∷ after) (length before) ≡ Some x
+get_after [] x after = refl
+get_after (y ∷ before) x after = get_after before x after
 
 pub has_numbered : (n : ℕ) (journal : List Entry) (entry : Entry) (k : ℕ) → slice_get journal k ≡ Some entry → (known : NumberedEntry) × Has (numbered n journal) known × (known.entry ≡ entry)
 has_numbered n [] entry k e = absurd (cc)

@@ -23,7 +23,7 @@ use Rattle.shards.specs.Closing.{ClosedShard, journal_of, book_of}
 use Rattle.logs.specs.declared.log.Log.{Log}
 use Rattle.logs.specs.Run.{IsTraced, IsRun, plan_of_run}
 use Rattle.feeders.specs.Texts.{TextKind, invocation, answer, amendment, text_of, text_in, settled, IsLastSettled, brought, TraceReading, IsPlaced, IsOfStep, IsLentAt, IsLentBehind, IsLentByTrace}
-use Rattle.feeders.proofs.TextsLists.{get_behind, numbered_get}
+use Rattle.feeders.proofs.TextsLists.{get_after, numbered_get}
 use Rattle.feeders.proofs.TextsEntries.{of_entry}
 use Rattle.feeders.proofs.TextsStanding.{last_settled}
 
@@ -46,13 +46,13 @@ invoked_at (edits.Withdraw other) id place text same placed settles = absurd (cc
 invoked_at (edits.Claim kind) id place text same placed settles = absurd (cc)
 
 -- the edit that brings another text is at a place after the operation's
-behind : (edit : Edit) (id : OpId) (place : ℕ) (item : Item) (part : TextKind) → part ≢ invocation → edit_id edit ≡ Some id → IsPlaced place edit → brought item ≡ Some part
+following : (edit : Edit) (id : OpId) (place : ℕ) (item : Item) (part : TextKind) → part ≢ invocation → edit_id edit ≡ Some id → IsPlaced place edit → brought item ≡ Some part
     → ((text : Bor (List ℕ)) → settled invocation edit ≡ Some (Some text) → brought item ≡ Some invocation) → id.event < place
-behind (edits.Append op) id place item part other same placed brings texts =
+following (edits.Append op) id place item part other same placed brings texts =
     let invokes = texts op.parts.invocation refl in absurd (other (cc))
-behind (edits.Amend one change) id place item part other same placed brings texts = let alike : one ≡ id = cc in subst (λ (i : OpId). i.event < place) alike placed
-behind (edits.Withdraw one) id place item part other same placed brings texts = let alike : one ≡ id = cc in subst (λ (i : OpId). i.event < place) alike placed
-behind (edits.Claim kind) id place item part other same placed brings texts = absurd (cc)
+following (edits.Amend one change) id place item part other same placed brings texts = let alike : one ≡ id = cc in subst (λ (i : OpId). i.event < place) alike placed
+following (edits.Withdraw one) id place item part other same placed brings texts = let alike : one ≡ id = cc in subst (λ (i : OpId). i.event < place) alike placed
+following (edits.Claim kind) id place item part other same placed brings texts = absurd (cc)
 
 answer_is_other : answer ≢ invocation
 answer_is_other e = absurd (cc)
@@ -108,7 +108,7 @@ module _ (tower : TowerModel) (chosen : MomentField) (shards : ℕ) (traces : Li
   module _ (register at : ℕ) (op : Op) where
     -- the entry that settles a text of the operation is of its feeder
     feeder_of : (part : TextKind) (text : Option (Bor (List ℕ))) → (last : IsLastSettled register (journal_of closed at) op.id part text) → slice_get (journal_of closed at) (length last.before) ≡ Some last.entry
-    feeder_of part text last = ap (λ (all : List Entry). slice_get all (length last.before)) last.journal_is ∙ get_behind last.before last.entry last.after
+    feeder_of part text last = ap (λ (all : List Entry). slice_get all (length last.before)) last.journal_is ∙ get_after last.before last.entry last.after
 
     is_its_feeder : (part : TextKind) (text : Option (Bor (List ℕ))) → (last : IsLastSettled register (journal_of closed at) op.id part text) → last.entry.feeder ≡ op.id.feeder
     is_its_feeder part text last = own_feeder at (length last.before) last.entry (feeder_of part text last) op.id last.of_it.of_id
@@ -135,7 +135,7 @@ module _ (tower : TowerModel) (chosen : MomentField) (shards : ℕ) (traces : Li
       later part other (Some text) last =
           let found = element_at part text last in
           let is = found.1 in
-          (found.0, behind is.last.entry.edit op.id found.0 is.of_step.item part other is.last.of_it.of_id is.of_step.placed is.brings (λ t s. (is.of_step.texts invocation t s).0), is)
+          (found.0, following is.last.entry.edit op.id found.0 is.of_step.item part other is.last.of_it.of_id is.of_step.placed is.brings (λ t s. (is.of_step.texts invocation t s).0), is)
 
     elements_of : ((part : TextKind) → IsLastSettled register (journal_of closed at) op.id part (text_of part op.parts)) → IsLentByTrace tower chosen traces logs register (journal_of closed at) op
     elements_of last =
@@ -158,9 +158,9 @@ module _ (tower : TowerModel) (chosen : MomentField) (shards : ℕ) (traces : Li
   of_trace register held is =
       let at : ℕ = register % length closed in
       let lt : at < length closed = within_closed (λ shard. shard.books) closed at (register / length closed) held is in
-      let stands : held.ops ≡ standing_of register (journal_of closed at) =
+      let present : held.ops ≡ standing_of register (journal_of closed at) =
       left register (journal_of closed at) (slice_get (plan_of_run tower shards traces).claims register) held
       (subst (λ (m : ℕ). option_map (left_by (journal_of closed (register % m)) register) (slice_get (plan_of_run tower shards traces).claims register) ≡ Some held) (sym run.finished.many) (sym (run.finished.books register) ∙ is)) in
       let last = last_settled (plan_of_run tower shards traces) at register (journal_of closed at) (run.finished.finished at lt).of_shard.legal in
-      subst (All (IsLentByTrace tower chosen traces logs register (journal_of closed at))) (sym stands)
+      subst (All (IsLentByTrace tower chosen traces logs register (journal_of closed at))) (sym present)
       (λ k d l. elements_of register at (get_or (standing_of register (journal_of closed at)) k d) (last k d l))

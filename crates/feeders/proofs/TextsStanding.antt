@@ -6,7 +6,7 @@ use Rattle.std.specs.Borrow.{Bor}
 use Rattle.std.proofs.lemmas.List.Elements.{All-nil, All-push, All-map, All-filter, All-weaker, filter_passes, filter-append}
 use Rattle.intervals.specs.declared.operation.Op.{Op}
 use Rattle.intervals.specs.declared.operation.OpId.{OpId}
-use Rattle.intervals.specs.declared.operation.Parts.{Parts}
+use Rattle.intervals.specs.declared.operation.OpParts.{OpParts}
 use Rattle.intervals.specs.declared.edit.Change.{Change}
 use Rattle.intervals.specs.declared.edit.Edit.{Edit}
 use Rattle.intervals.specs.declared.edit.Edit.TheVariants as edits
@@ -28,7 +28,7 @@ use Rattle.shards.specs.Journal.{EachAfter, IsAnswered, is_accepted, is_accepted
 use Rattle.feeders.specs.Texts.{TextKind, invocation, answer, amendment, text_of, text_in, settled, IsEditOf, IsLastSettled}
 
 -- a change brings a text of this kind, or leaves the operation's as it was
-brought_or_left : (part : TextKind) (parts : Parts) (lent : Lent) → ((text : Bor (List ℕ)) × (text_in part lent ≡ Some text) × (text_of part (parts_with parts lent) ≡ Some text)) ⊎ ((text_in part lent ≡ None) × (text_of part (parts_with parts lent) ≡ text_of part parts))
+brought_or_left : (part : TextKind) (parts : OpParts) (lent : Lent) → ((text : Bor (List ℕ)) × (text_in part lent ≡ Some text) × (text_of part (parts_with parts lent) ≡ Some text)) ⊎ ((text_in part lent ≡ None) × (text_of part (parts_with parts lent) ≡ text_of part parts))
 brought_or_left invocation parts (lents.Answer text) = inr (refl, refl)
 brought_or_left invocation parts (lents.Amendment text) = inr (refl, refl)
 brought_or_left answer parts (lents.Answer text) = inl (text, refl, refl)

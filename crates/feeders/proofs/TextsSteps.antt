@@ -23,7 +23,7 @@ use Rattle.pairing.specs.declared.step.Step.TheVariants as steps
 use Rattle.pairing.specs.Accepted.{Placed, invocation as invoked, is_event_of, last_of, unanswered_of, register_of, fault_of, with_accepted, accepted}
 use Rattle.pairing.specs.Step.{id_of, append_of, amendment_of, invoke_step, ok_step, event_step, edit_step, given_by, unless}
 use Rattle.pairing.proofs.Standing.{invocation_place}
-use Rattle.logs.specs.Steps.{placed_from, placed, by_pairing, step_behind, steps_behind, steps_of}
+use Rattle.logs.specs.Steps.{placed_from, placed, by_pairing, step_after, steps_after, steps_of}
 use Rattle.feeders.specs.Texts.{TextKind, invocation, answer, amendment, text_of, text_in, settled, brought_at, brought, IsPlaced}
 use Rattle.feeders.proofs.TextsItems.{Carries}
 use Rattle.feeders.proofs.TextsLists.{all_reverse, all_found, all_filter_map}
@@ -167,10 +167,10 @@ pub record IsFromItem (feeder : ℕ) (items : List (Result Item FormFault)) (pla
   pub item_is : slice_get items place ≡ Some (Ok item)
   pub edit_is : (bytes : List ℕ) → Carries bytes item → IsEditAt feeder place bytes (brought item) edit
 
-of_behind : (feeder n : ℕ) (front : List (Result Item FormFault)) (one : Result Item FormFault) (register : RegId) (edit : Edit) → length front ≡ n → step_behind feeder front one ≡ Ok (Some (steps.Edit register edit))
+of_after : (feeder n : ℕ) (front : List (Result Item FormFault)) (one : Result Item FormFault) (register : RegId) (edit : Edit) → length front ≡ n → step_after feeder front one ≡ Ok (Some (steps.Edit register edit))
     → (item : Item) × (one ≡ Ok item) × ((bytes : List ℕ) → Carries bytes item → IsEditAt feeder n bytes (brought item) edit)
-of_behind feeder n front (Err fault) register edit at e = absurd (cc)
-of_behind feeder n front (Ok item) register edit at e = (
+of_after feeder n front (Err fault) register edit at e = absurd (cc)
+of_after feeder n front (Ok item) register edit at e = (
   item,
   refl,
   λ bytes is. subst (λ (k : ℕ). IsEditAt feeder k bytes (brought item) edit) at
@@ -179,11 +179,11 @@ of_behind feeder n front (Ok item) register edit at e = (
 )
 
 from_item : (feeder : ℕ) (before rest : List (Result Item FormFault)) (k n : ℕ) (register : RegId) (edit : Edit) → n ≡ length before + k
-    → slice_get (steps_behind feeder before rest) k ≡ Some (Ok (Some (steps.Edit register edit)))
+    → slice_get (steps_after feeder before rest) k ≡ Some (Ok (Some (steps.Edit register edit)))
     → (item : Item) × (slice_get rest k ≡ Some (Ok item)) × ((bytes : List ℕ) → Carries bytes item → IsEditAt feeder n bytes (brought item) edit)
 from_item feeder before [] k n register edit at e = absurd (cc)
 from_item feeder before (one ∷ rest) zero n register edit at e =
-    let r = of_behind feeder n before one register edit (omega (arith, at)) (same_some _ _ e) in
+    let r = of_after feeder n before one register edit (omega (arith, at)) (same_some _ _ e) in
     (r.0, ap (λ (x : Result Item FormFault). Some x) r.1, r.2)
 from_item feeder before (one ∷ rest) (suc k) n register edit at e =
     from_item feeder (before ++ one ∷ []) rest k n register edit (omega (arith, at, length-append before (one ∷ []))) e

@@ -18,7 +18,7 @@ use Rattle.feeders.specs.Setting.{Setting}
 -- after `bytes`, before `next`, the splitter has given these elements; the kept bytes are the last of `bytes`, from no
 -- later than the first that an element may still need, and no more elements were counted than bytes are before that one
 pub record HasTaken (bytes next : List ℕ) (pieces : List ElementModel) (intake : Intake) : Type 0 where
-  pub stands : StandsAfter bytes next pieces intake.splitter
+  pub present : StandsAfter bytes next pieces intake.splitter
   pub holds : AreLastBytes bytes intake.kept
   pub low : intake.kept.from ≤ keep intake.splitter
   pub place : intake.progress.place ≤ keep intake.splitter
@@ -28,7 +28,7 @@ pub record HasTaken (bytes next : List ℕ) (pieces : List ElementModel) (intake
 pub record CanGoOn (next : List ℕ) (intake : Intake) : Type 0 where
   pub bytes : List ℕ
   pub pieces : List ElementModel
-  pub stands : StandsAfter bytes next pieces intake.splitter
+  pub present : StandsAfter bytes next pieces intake.splitter
   pub holds : HoldsAs intake.pending bytes intake.kept
   pub low : intake.kept.from ≤ keep intake.splitter
   pub place : intake.progress.place ≤ keep intake.splitter

@@ -18,7 +18,7 @@ use Rattle.feeders.specs.declared.progress.Progress.{Progress}
 use Rattle.feeders.specs.Readers.{IsReadOf}
 use Rattle.feeders.specs.Setting.{Setting, setting_of}
 use Rattle.logs.specs.Start.{Start, first_start}
-use Rattle.logs.specs.Steps.{AreItemsOfTrace, StepResult, placed, step_behind, steps_of}
+use Rattle.logs.specs.Steps.{AreItemsOfTrace, StepResult, placed, step_after, steps_of}
 use Rattle.logs.specs.Doings.{Doing, AreDone, own_after}
 
 -- the feeder has done these steps: its pass has the entries that it began with and then those of its doings, and its
@@ -61,7 +61,7 @@ pub record IsPaired (plan : Plan) (start : Start) (items : List (Result Item For
   pub place : progress.place ≡ length items
   pub feeder_is : progress.pairing.feeder ≡ start.feeder
   pub pairing : KnowsItems progress.pairing (placed (items ++ item ∷ []))
-  pub step_is : step ≡ step_behind start.feeder items item
+  pub step_is : step ≡ step_after start.feeder items item
   pub done : HasDone plan start pass progress.log.lines.items (steps_of start.feeder items)
 
 -- a feeder has gone through its trace, up to the end or to where it broke: its pass and its log have the trace's steps

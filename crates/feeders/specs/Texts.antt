@@ -5,7 +5,7 @@ use Rattle.std.specs.List.{slice_get}
 use Rattle.edn_reader.specs.Grammar.{ElementModel}
 use Rattle.intervals.specs.declared.operation.Op.{Op}
 use Rattle.intervals.specs.declared.operation.OpId.{OpId}
-use Rattle.intervals.specs.declared.operation.Parts.{Parts}
+use Rattle.intervals.specs.declared.operation.OpParts.{OpParts}
 use Rattle.intervals.specs.declared.edit.Edit.{Edit}
 use Rattle.intervals.specs.declared.edit.Edit.TheVariants as edits
 use Rattle.intervals.specs.declared.edit.Lent.{Lent}
@@ -32,7 +32,7 @@ pub data TextKind : Type 0 where
   amendment : TextKind
 
 -- the text of this kind that an operation has; an answer and an amendment are optional
-abbrev pub text_of : TextKind → Parts → Option (Bor (List ℕ))
+abbrev pub text_of : TextKind → OpParts → Option (Bor (List ℕ))
 text_of invocation parts = Some parts.invocation
 text_of answer parts = parts.answer
 text_of amendment parts = parts.amendment

@@ -95,7 +95,7 @@ impl<'t> Intake<'t> {
     }
 
     /// Carries out the step of the element that was paired, if one waits.
-    fn carry_out<O: Opening, R: Wait, G: Watcher>(
+    fn finish_step<O: Opening, R: Wait, G: Watcher>(
         &mut self,
         site: Site<'_, '_, 't, O, R, G>,
         pass: &mut Pass<'t>,
@@ -120,7 +120,7 @@ impl<'t> Intake<'t> {
         items_name_registers_of_the_tower();
         steps_are_on_named_registers();
         if let Pending::Paired(step) = self.pending {
-            if let Err(fault) = self.progress.carry_out(site, pass, step) {
+            if let Err(fault) = self.progress.take_step(site, pass, step) {
                 return Err(fault);
             }
             self.pending = Pending::Nothing;
@@ -154,7 +154,7 @@ impl<'t> Intake<'t> {
     {
         self.read_whole(site, pages)?;
         self.pair_lent()?;
-        self.carry_out(site, pass)
+        self.finish_step(site, pass)
     }
 
     /// Takes `front`, the prefix of a chunk with which an element ended that begins at the place `start`. The

@@ -76,7 +76,7 @@ impl<'t> Progress<'t> {
     }
 
     /// Carries out the step of the element that was paired last, or notes why it is refused.
-    pub fn carry_out<O: Opening, R: Wait, G: Watcher>(
+    pub fn take_step<O: Opening, R: Wait, G: Watcher>(
         &mut self,
         site: Site<'_, '_, 't, O, R, G>,
         pass: &mut Pass<'t>,

@@ -46,7 +46,7 @@ pub fn feed_trace<'t, O: Opening, R: Wait, G: Watcher>(
         match reader.next() {
             Ok(Some(element)) => {
                 let step = progress.pair(read_item(element, site.field, site.tower))?;
-                if let Err(fault) = progress.carry_out(site, &mut pass, step) {
+                if let Err(fault) = progress.take_step(site, &mut pass, step) {
                     return Err(fault);
                 }
             }

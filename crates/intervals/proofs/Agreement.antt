@@ -179,8 +179,8 @@ no_write_before : (ops : List Op) (r : Op) → All (λ w. ¬ IsWriteBefore r w) 
 no_write_before ops r h k d lt write before = h k d lt (write, before)
 
 last_is : (ops : List Op) (r : Op) (m : Moment) → SomeBefore r None ops m → (w : Op) → Contains ops w → IsReturnedAt r m w → IsLastBefore ops r w
-last_is ops r m some w stands at = record {
-  stands = stands;
+last_is ops r m some w present at = record {
+  present = present;
   write = at.0.0;
   before = at.0.1;
   last = λ k d lt write before. let le = some.last k d lt (write, before) in let same = at.1.0 in omega arith;
@@ -202,7 +202,7 @@ all_of P ops w all h = All-contains P ops w all h
 -- the last write that precedes the read begins at the moment that was found
 begins_at_found : (ops : List Op) (r w : Op) (m : Moment) → IsLastBefore ops r w → SomeBefore r None ops m → w.begin.0 ≡ m.0
 begins_at_found ops r w m is some =
-    let le : w.begin.0 ≤ m.0 = all_of (λ v. IsWriteBefore r v → v.begin.0 ≤ m.0) ops w some.last is.stands (is.write, is.before) in
+    let le : w.begin.0 ≤ m.0 = all_of (λ v. IsWriteBefore r v → v.begin.0 ≤ m.0) ops w some.last is.present (is.write, is.before) in
     elim some.from as (λ _. w.begin.0 ≡ m.0) [
       | inl any ↦ (let ge : any.1.begin.0 ≤ w.begin.0 = all_of (λ v. IsWrite v → Precedes v r → v.begin.0 ≤ w.begin.0) ops any.1 is.last (any.0, any.2, any.3) any.4.0.0 any.4.0.1 in
           let same : any.1.begin.0 ≡ m.0 = ap (λ (b : Moment). b.0) any.4.1 in omega arith)
@@ -211,11 +211,11 @@ begins_at_found ops r w m is some =
 
 returns_backward : (initial : Value) (ops : List Op) (r : Op) (x : Option Moment) → last_before ops r ≡ x → ReturnsLast initial ops r → returns_of initial ops r x ≡ true
 returns_backward initial ops r None e (inl h) =
-    absurd (all_of (λ w. ¬ IsWriteBefore r w) ops h.0 (last_from-None r None ops e).1 h.1.stands (h.1.write, h.1.before))
+    absurd (all_of (λ w. ¬ IsWriteBefore r w) ops h.0 (last_from-None r None ops e).1 h.1.present (h.1.write, h.1.before))
 returns_backward initial ops r None e (inr h) = (Decides-same_value initial (value_of r.act)).1 (sym h.1)
 returns_backward initial ops r (Some m) e (inl h) =
     (Decides-list_any (is_returned_at r m) (IsReturnedAt r m) (Decides-is_returned_at r m) ops).1
-    (any_of (IsReturnedAt r m) ops h.0 h.1.stands ((h.1.write, h.1.before), (begins_at_found ops r h.0 m h.1 (last_from-Some r None ops m e), sym h.2)))
+    (any_of (IsReturnedAt r m) ops h.0 h.1.present ((h.1.write, h.1.before), (begins_at_found ops r h.0 m h.1 (last_from-Some r None ops m e), sym h.2)))
 returns_backward initial ops r (Some m) e (inr h) =
     elim (last_from-Some r None ops m e).from as (λ _. returns_of initial ops r (Some m) ≡ true) [
       | inl any ↦ absurd (all_of (λ w. IsWrite w → ¬ Precedes w r) ops any.1 h.0 (any.0, any.2, any.3) any.4.0.0 any.4.0.1)

@@ -38,8 +38,8 @@ module _ (claim : ClaimModel) (front : List Op) (op : Op) (rest : List Op) (apar
   abbrev all : List Op
   all = front ++ op ∷ rest
 
-  stands : Contains all op
-  stands = Contains-append_right front (op ∷ rest) op (here op rest)
+  present : Contains all op
+  present = Contains-append_right front (op ∷ rest) op (here op rest)
 
   in_all : (a : Op) → Contains front a → Contains all a
   in_all a h = Contains-append_left front (op ∷ rest) a h
@@ -51,7 +51,7 @@ module _ (claim : ClaimModel) (front : List Op) (op : Op) (rest : List Op) (apar
 
   -- what is so of each two operations is so of one before and this one
   so : (R : Op → Op → Type 0) → ((a b : Op) → R a b → R b a) → AllPairs R all → (a : Op) → Contains front a → R a op
-  so R symmetric pairs a h = by_cases (one_or_so R symmetric all pairs a op (in_all a h) stands)
+  so R symmetric pairs a h = by_cases (one_or_so R symmetric all pairs a op (in_all a h) present)
     where
       by_cases : (a ≡ op) ⊎ R a op → R a op
       by_cases (inl same) = absurd (not_it a h (ap (λ (o : Op). o.id) same))
@@ -70,10 +70,10 @@ module _ (claim : ClaimModel) (front : List Op) (op : Op) (rest : List Op) (apar
   moments_free : moments_refusal front op ≡ None
   moments_free =
       rw (
-        late_end op.end op.begin (All-contains (λ o. IfSome o.end (λ e. o.begin.0 < e.0)) all op apart.ends stands),
+        late_end op.end op.begin (All-contains (λ o. IfSome o.end (λ e. o.begin.0 < e.0)) all op apart.ends present),
         moment_free op.begin (inl refl),
         end_free op.end refl,
-        All-contains (λ o. has_large_moment o ≡ false) all op apart.low stands,
+        All-contains (λ o. has_large_moment o ≡ false) all op apart.low present,
       ) refl
 
   no_overlap : IsWrite op → claim.kind ≢ Atomic → overlap_refusal front op ≡ None
@@ -87,7 +87,7 @@ module _ (claim : ClaimModel) (front : List Op) (op : Op) (rest : List Op) (apar
 
   no_holder : IsWrite op → claim.kind ≡ Atomic → value_refusal claim front op ≡ None
   no_holder write atomic =
-      nobody_back claim front op (All-contains (λ w. IsWrite w → ¬ IsInitial claim (value_of w.act)) all op (apart.values atomic).new stands write)
+      nobody_back claim front op (All-contains (λ w. IsWrite w → ¬ IsInitial claim (value_of w.act)) all op (apart.values atomic).new present write)
       (all_from (λ other. ¬ IsHolder op other) front (λ a h holds.
       so HaveOtherValues (λ x y apart wy wx e. apart wx wy (sym e)) (apart.values atomic).apart a h holds.1 write holds.2))
 
@@ -101,7 +101,7 @@ module _ (claim : ClaimModel) (front : List Op) (op : Op) (rest : List Op) (apar
     where
       by_write : (t : Bool) → is_write op ≡ t → write_refusal claim front op ≡ None
       by_write true write =
-          let permitted = All-contains (λ w. IsWrite w → IsPermitted claim w) all op apart.allowed stands write in
+          let permitted = All-contains (λ w. IsWrite w → IsPermitted claim w) all op apart.allowed present write in
           rw (write, permitted.writer, kind_free write claim.kind refl, permitted.value) refl
       by_write false read = rw read refl
 

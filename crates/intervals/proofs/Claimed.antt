@@ -71,13 +71,13 @@ pub overlap_nowhere : (ops : List Op) → HasNoOverlappingWrites ops → first_o
 overlap_nowhere ops apart = ap (overlap_of ops) (least_from-none begin_number (overlaps_another ops) None ops (all_from (λ w. ¬ IsTrue (overlaps_another ops w)) ops none))
   where
     none : (w : Op) → Contains ops w → ¬ IsTrue (overlaps_another ops w)
-    none w stands t =
+    none w present t =
         let parts = and_parts (is_write w) (list_any (is_overlapped w) ops) t in
         let any = Any-from_list_any (is_overlapped w) ops parts.1 in
         let x : Op = any.1 in
         let over = and_parts (not (same_id x.id w.id) && is_write x) (overlaps x w) any.4 in
         let other = and_parts (not (same_id x.id w.id)) (is_write x) over.0 in
-        by_pair x other.0 (one_or_so (λ v w. IsWrite v → IsWrite w → ¬ Overlaps v w) (λ a b none wb wa (p, q). none wa wb (q, p)) ops apart x w (any.0, any.2, any.3) stands) other.1 parts.0 ((Decides-overlaps x w).0 over.1)
+        by_pair x other.0 (one_or_so (λ v w. IsWrite v → IsWrite w → ¬ Overlaps v w) (λ a b none wb wa (p, q). none wa wb (q, p)) ops apart x w (any.0, any.2, any.3) present) other.1 parts.0 ((Decides-overlaps x w).0 over.1)
       where
         by_pair : (x : Op) → not (same_id x.id w.id) ≡ true → (x ≡ w) ⊎ (IsWrite x → IsWrite w → ¬ Overlaps x w) → IsWrite x → IsWrite w → ¬ Overlaps x w
         by_pair x other (inl same) wx ww over = let t = (Decides-same_id_is x.id w.id).1 (ap (λ (o : Op). o.id) same) in absurd (let f = ap not t in cc)
@@ -151,15 +151,15 @@ module _ (claim : ClaimModel) where
           rw (write, free) refl
       by_write false read = rw read refl
 
-  repeat_behind : (before ops : List Op) → HasOwnValues claim (before ++ ops) → first_repeat claim before ops ≡ None
-  repeat_behind before [] values = refl
-  repeat_behind before (op ∷ ops) values =
+  repeat_after : (before ops : List Op) → HasOwnValues claim (before ++ ops) → first_repeat claim before ops ≡ None
+  repeat_after before [] values = refl
+  repeat_after before (op ∷ ops) values =
       ap (λ (first : Option (OpId × Holder)). first_there first (first_repeat claim (before ++ op ∷ []) ops)) (alone before op ops values)
-      ∙ repeat_behind (before ++ op ∷ []) ops (subst (HasOwnValues claim) (sym (append_assoc before (op ∷ []) ops)) values)
+      ∙ repeat_after (before ++ op ∷ []) ops (subst (HasOwnValues claim) (sym (append_assoc before (op ∷ []) ops)) values)
 
   -- where values are distinct, no repeat is found
   pub repeat_nowhere : (ops : List Op) → HasOwnValues claim ops → first_repeat claim [] ops ≡ None
-  repeat_nowhere ops values = repeat_behind [] ops values
+  repeat_nowhere ops values = repeat_after [] ops values
 
   -- the repeat that is found is a write of the list, and no operation before it is a repeat
   pub record IsRepeatAt (before ops : List Op) (id : OpId) (holder : Holder) : Type 0 where

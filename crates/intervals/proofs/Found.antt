@@ -38,4 +38,4 @@ module _ (test : Op → Bool) where
     where
       by_cases : (t : Bool) → test a ≡ t → cond t (Some a) (find test ops) ≡ Some op → (find test ops ≡ Some op → Contains ops op × IsTrue (test op)) → Contains (a ∷ ops) op × IsTrue (test op)
       by_cases true t e later = ((0, omega arith, (cc)), let same : a ≡ op = cc in rw (← same) t)
-      by_cases false t e later = let (stands, passes) = later e in ((suc stands.0, omega (arith, stands.1), stands.2), passes)
+      by_cases false t e later = let (present, passes) = later e in ((suc present.0, omega (arith, present.1), present.2), passes)

@@ -169,9 +169,9 @@ pub one_of_id : (ops : List Op) → HasDistinctIds ops → (a b : Op) → Contai
 one_of_id ops distinct a b sa sb e = let p = found_by_id ops a distinct sa in let q = found_by_id ops b distinct sb in let r = ap (op_of ops) e in cc
 
 -- an operation that is found by an optional id stands and has it
-pub found_stands : (ops : List Op) (id : Option OpId) (x : Op) → found_by ops id ≡ Some x → Contains ops x × (has_id id x ≡ true)
-found_stands ops None x e = absurd (cc)
-found_stands ops (Some id) x e = find-Some (λ op. same_id op.id id) ops x e
+pub found_present : (ops : List Op) (id : Option OpId) (x : Op) → found_by ops id ≡ Some x → Contains ops x × (has_id id x ≡ true)
+found_present ops None x e = absurd (cc)
+found_present ops (Some id) x e = find-Some (λ op. same_id op.id id) ops x e
 
 -- an operation that stands and has an optional id is found by it
 pub found_again : (ops : List Op) (id : Option OpId) (x : Op) → HasDistinctIds ops → Contains ops x → has_id id x ≡ true → found_by ops id ≡ Some x

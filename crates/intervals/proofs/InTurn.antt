@@ -84,22 +84,22 @@ module _ (before : List Op) (op : Op) where
 module _ (ops : List Op) (ids : HasDistinctIds ops) (shelf : OrderedIndex) (are : AreWritesByBegin shelf ops) (after : Option Moment) where
   -- where the index has no id, no write begins
   none_begins : (w : Op) → Contains ops w → IsWrite w → ¬ (id_at shelf (spot_then w.begin) ≡ None)
-  none_begins w stands write e =
+  none_begins w present write e =
       let none = find-None (begins_then w.begin) ops (not_mapped (λ (w : Op). w.id) (find (begins_then w.begin) ops) (sym (are w.begin) ∙ e)) in
-      let f = All-contains (λ op. begins_then w.begin op ≡ false) ops w none stands in
+      let f = All-contains (λ op. begins_then w.begin op ≡ false) ops w none present in
       let t = begins_itself w write in
       cc
 
   pub none_next : ((m : Moment) → IsLaterThan after m → id_at shelf (spot_then m) ≡ None) → IsNextWrite ops after None
-  none_next none = all_from (λ w. IsWrite w → ¬ IsLaterThan after w.begin) ops (λ w stands write behind. none_begins w stands write (none w.begin behind))
+  none_next none = all_from (λ w. IsWrite w → ¬ IsLaterThan after w.begin) ops (λ w present write following. none_begins w present write (none w.begin following))
 
   pub next_found : (m : Moment) (id : OpId) (found : Option Op) → IsLaterThan after m → id_at shelf (spot_then m) ≡ Some id → ((n : Moment) → IsLaterThan after n → n.0 < m.0 → id_at shelf (spot_then n) ≡ None) → found ≡ op_of ops id → IsNextWrite ops after found
-  next_found m id found behind there none is = by_found (find (begins_then m) ops) refl
+  next_found m id found following there none is = by_found (find (begins_then m) ops) refl
     where
       by_order : (w v : Op) → w.begin.0 ≡ m.0 → Contains ops v → IsWrite v → IsLaterThan after v.begin → (v.begin.0 ≡ m.0) ⊎ ((v.begin.0 < m.0) ⊎ (m.0 < v.begin.0)) → w.begin.0 ≤ v.begin.0
-      by_order w v b stands write after_it (inl e) = omega arith
-      by_order w v b stands write after_it (inr (inl lt)) = absurd (none_begins v stands write (none v.begin after_it lt))
-      by_order w v b stands write after_it (inr (inr gt)) = omega arith
+      by_order w v b present write after_it (inl e) = omega arith
+      by_order w v b present write after_it (inr (inl lt)) = absurd (none_begins v present write (none v.begin after_it lt))
+      by_order w v b present write after_it (inr (inr gt)) = omega arith
 
       by_found : (o : Option Op) → find (begins_then m) ops ≡ o → IsNextWrite ops after found
       by_found None e = let lost = sym there ∙ (are m ∙ ap (option_map (λ (w : Op). w.id)) e) in absurd (cc)
@@ -112,25 +112,25 @@ module _ (ops : List Op) (ids : HasDistinctIds ops) (shelf : OrderedIndex) (are 
           subst (IsNextWrite ops after) (sym it) (
             h.0,
             parts.0,
-            subst (IsLaterThan after) (sym (same_moment w.begin m begins)) behind,
-            all_from (λ v. IsWrite v → IsLaterThan after v.begin → w.begin.0 ≤ v.begin.0) ops (λ v stands write after_it. by_order w v begins stands write after_it (cases_order v.begin.0 m.0)),
+            subst (IsLaterThan after) (sym (same_moment w.begin m begins)) following,
+            all_from (λ v. IsWrite v → IsLaterThan after v.begin → w.begin.0 ≤ v.begin.0) ops (λ v present write after_it. by_order w v begins present write after_it (cases_order v.begin.0 m.0)),
           )
 
 -- the next write, with one more operation among those that were searched
 module _ (ops : List Op) (after : Option Moment) (op : Op) where
   pub next_with : (next : Option Op) → IsNextWrite ops after next → IsWrite op × IsLaterThan after op.begin × IfSome next (λ n. op.begin.0 < n.begin.0) → IsNextWrite (ops ++ op ∷ []) after (Some op)
-  next_with None none (write, behind, sooner) = (
+  next_with None none (write, following, sooner) = (
     Contains-push ops op,
     write,
-    behind,
+    following,
     All-push (λ v. IsWrite v → IsLaterThan after v.begin → op.begin.0 ≤ v.begin.0) ops op
-        (all_from (λ v. IsWrite v → IsLaterThan after v.begin → op.begin.0 ≤ v.begin.0) ops (λ v stands wv bv. absurd (All-contains (λ w. IsWrite w → ¬ IsLaterThan after w.begin) ops v none stands wv bv)))
+        (all_from (λ v. IsWrite v → IsLaterThan after v.begin → op.begin.0 ≤ v.begin.0) ops (λ v present wv bv. absurd (All-contains (λ w. IsWrite w → ¬ IsLaterThan after w.begin) ops v none present wv bv)))
         (λ wv bv. omega arith),
   )
-  next_with (Some n) (stands, wn, bn, least) (write, behind, sooner) = (
+  next_with (Some n) (present, wn, bn, least) (write, following, sooner) = (
     Contains-push ops op,
     write,
-    behind,
+    following,
     All-push (λ v. IsWrite v → IsLaterThan after v.begin → op.begin.0 ≤ v.begin.0) ops op
         (all_from (λ v. IsWrite v → IsLaterThan after v.begin → op.begin.0 ≤ v.begin.0) ops (λ v sv wv bv.
         let le = All-contains (λ v. IsWrite v → IsLaterThan after v.begin → n.begin.0 ≤ v.begin.0) ops v least sv wv bv in omega arith))
@@ -138,9 +138,9 @@ module _ (ops : List Op) (after : Option Moment) (op : Op) where
   )
 
   pub next_still : (next : Option Op) → IsNextWrite ops after next → (IsWrite op → IsLaterThan after op.begin → IsSomeAnd next (λ n. n.begin.0 ≤ op.begin.0)) → IsNextWrite (ops ++ op ∷ []) after next
-  next_still None none later = All-push (λ w. IsWrite w → ¬ IsLaterThan after w.begin) ops op none (λ write behind. later write behind)
-  next_still (Some n) (stands, wn, bn, least) later = (
-    Contains-append_left ops (op ∷ []) n stands,
+  next_still None none later = All-push (λ w. IsWrite w → ¬ IsLaterThan after w.begin) ops op none (λ write following. later write following)
+  next_still (Some n) (present, wn, bn, least) later = (
+    Contains-append_left ops (op ∷ []) n present,
     wn,
     bn,
     All-push (λ v. IsWrite v → IsLaterThan after v.begin → n.begin.0 ≤ v.begin.0) ops op least later,

@@ -17,7 +17,7 @@ use Rattle.intervals.specs.Table.{ops_in_slots, slot_at, IsIndexed}
 use Rattle.intervals.proofs.Accepted.{shares_none, moments_accepted}
 use Rattle.intervals.proofs.Found.{find-None, find-Some}
 use Rattle.intervals.proofs.Ids.{Decides-same_id_is, same_id-refl, none_of, not_taken, other_way}
-use Rattle.intervals.proofs.Slots.{slot_stands, stands_in_slot, slot_within, slot_at-more, slot_at-others, slot_at-past, slot_at-set, slot_at-set_others, standing_changed, IsOnlyAt}
+use Rattle.intervals.proofs.Slots.{slot_present, present_in_slot, slot_within, slot_at-more, slot_at-others, slot_at-past, slot_at-set, slot_at-set_others, standing_changed, IsOnlyAt}
 
 abbrev is_moment_of_next : Option Op → Moment → Bool
 is_moment_of_next None moment = false
@@ -78,8 +78,8 @@ left_id ops id change new left = by_cases (op_of ops id) refl left
         sym own ∙ ap (λ (a : Op). a.id) (some_is (changed op change) new e)
 
 -- where an amendment makes an operation, one of its id stands
-pub left_stands : (ops : List Op) (id : OpId) (change : Change) (new : Op) → new_op ops (Amend id change) ≡ Some new → IsSome (op_of ops new.id)
-left_stands ops id change new left = subst (λ (id : OpId). IsSome (op_of ops id)) (left_id ops id change new left) (by_cases (op_of ops id) left)
+pub left_present : (ops : List Op) (id : OpId) (change : Change) (new : Op) → new_op ops (Amend id change) ≡ Some new → IsSome (op_of ops new.id)
+left_present ops id change new left = subst (λ (id : OpId). IsSome (op_of ops id)) (left_id ops id change new left) (by_cases (op_of ops id) left)
   where
     by_cases : (o : Option Op) → option_map (λ op. changed op change) o ≡ Some new → IsSome o
     by_cases None e = absurd (cc)
@@ -226,10 +226,10 @@ module _ (slots : List (Option Op)) (place : OpId → Option ℕ) (holder : Mome
       has = has_own_id id i op p e
 
       by_cases : (o : Option Op) → op_of (ops_in_slots slots) id ≡ o → o ≡ Some op
-      by_cases None o = let t : same_id op.id id ≡ true = has in let f = All-contains (λ op. same_id op.id id ≡ false) (ops_in_slots slots) op (none_of (ops_in_slots slots) id o) (slot_stands slots i op e) in absurd (cc)
+      by_cases None o = let t : same_id op.id id ≡ true = has in let f = All-contains (λ op. same_id op.id id ≡ false) (ops_in_slots slots) op (none_of (ops_in_slots slots) id o) (slot_present slots i op e) in absurd (cc)
       by_cases (Some a) o =
           let h = find-Some (λ op. same_id op.id id) (ops_in_slots slots) a o in
-          let k = stands_in_slot slots a h.0 in
+          let k = present_in_slot slots a h.0 in
           let same = one_slot (slot_at slots) place holder indexed k.0 i a op k.1 e ((Decides-same_id_is a.id id).0 h.1 ∙ sym ((Decides-same_id_is op.id id).0 has)) in
           sym k.1 ∙ (ap (slot_at slots) same ∙ e)
 
@@ -241,7 +241,7 @@ module _ (slots : List (Option Op)) (place : OpId → Option ℕ) (holder : Mome
       by_cases None o = refl
       by_cases (Some a) o =
           let h = find-Some (λ op. same_id op.id id) (ops_in_slots slots) a o in
-          let k = stands_in_slot slots a h.0 in
+          let k = present_in_slot slots a h.0 in
           let e = none k.0 (ap place (sym ((Decides-same_id_is a.id id).0 h.1)) ∙ indexed.placed k.0 a k.1) in
           absurd (cc)
 
@@ -259,12 +259,12 @@ module _ (slots : List (Option Op)) (place : OpId → Option ℕ) (holder : Mome
       by_cases None o None h = refl
       by_cases None o (Some holder_id) h =
           let (k, a, e, t, same) = indexed.holds m holder_id h in
-          let none = All-contains (λ op. (not (same_id op.id id) && is_moment_of op m) ≡ false) (ops_in_slots slots) a (find-None (λ op. not (same_id op.id id) && is_moment_of op m) (ops_in_slots slots) o) (slot_stands slots k a e) in
+          let none = All-contains (λ op. (not (same_id op.id id) && is_moment_of op m) ≡ false) (ops_in_slots slots) a (find-None (λ op. not (same_id op.id id) && is_moment_of op m) (ops_in_slots slots) o) (slot_present slots k a e) in
           let own : same_id a.id id ≡ true = not_other (same_id a.id id) (is_moment_of a m) none t in
           rw (← same, own) refl
       by_cases (Some x) o h e =
           let f = find-Some (λ op. not (same_id op.id id) && is_moment_of op m) (ops_in_slots slots) x o in
-          let k = stands_in_slot slots x f.0 in
+          let k = present_in_slot slots x f.0 in
           let (apart, t) = both (same_id x.id id) (is_moment_of x m) f.1 in
           let s : h ≡ Some x.id = sym e ∙ indexed.held k.0 x m k.1 t in
           rw (s, apart) refl
@@ -279,11 +279,11 @@ module _ (slots : List (Option Op)) (place : OpId → Option ℕ) (holder : Mome
     where
       by_cases : (s : Bool) → is_moment_of new m ≡ s → s ≡ false
       by_cases false s = refl
-      by_cases true s = absurd (All-contains (λ other. same_id other.id new.id ≡ false → ShareNoMoment new other) (ops_in_slots slots) op (shares_none (ops_in_slots slots) new accepted) (slot_stands slots j op e) apart m (moment_of new m s) (moment_of op m t))
+      by_cases true s = absurd (All-contains (λ other. same_id other.id new.id ≡ false → ShareNoMoment new other) (ops_in_slots slots) op (shares_none (ops_in_slots slots) new accepted) (slot_present slots j op e) apart m (moment_of new m s) (moment_of op m t))
 
   -- the id of a new operation that may be appended is not that of another
   pub id_free : (new : Op) → op_of (ops_in_slots slots) new.id ≡ None → (j : ℕ) (op : Op) → slot_at slots j ≡ Some op → same_id op.id new.id ≡ false
-  id_free new none j op e = All-contains (λ op. same_id op.id new.id ≡ false) (ops_in_slots slots) op (none_of (ops_in_slots slots) new.id none) (slot_stands slots j op e)
+  id_free new none j op e = All-contains (λ op. same_id op.id new.id ≡ false) (ops_in_slots slots) op (none_of (ops_in_slots slots) new.id none) (slot_present slots j op e)
 
   -- no slot but that of the id has an operation of it
   pub only_there : (id : OpId) (i : ℕ) (op : Op) → place id ≡ Some i → slot_at slots i ≡ Some op → IsOnlyAt slots i id

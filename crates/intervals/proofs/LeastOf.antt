@@ -113,7 +113,7 @@ module _ (key : Op → ℕ) (test : Op → Bool) where
 
   is_least : (ops : List Op) (least : Op) → SomeLeast None ops least → Any (Is least) ops ⊎ (None ≡ Some least) → IsLeast key test ops least
   is_least ops least h (inl any) = record {
-    stands = subst (λ (o : Op). Contains ops o) any.4.1 (any.0, any.2, any.3);
+    present = subst (λ (o : Op). Contains ops o) any.4.1 (any.0, any.2, any.3);
     passes = subst (λ (o : Op). IsTrue (test o)) any.4.1 any.4.0;
     least = h.least_one;
   }
@@ -133,12 +133,12 @@ module _ (key : Op → ℕ) (test : Op → Bool) where
   least_is ops op told is = by_cases (least_by key test ops) refl
     where
       by_cases : (found : Option Op) → least_by key test ops ≡ found → least_by key test ops ≡ Some op
-      by_cases None e = absurd (All-contains (λ o. ¬ IsTrue (test o)) ops op (least_from-None None ops e).1 is.stands is.passes)
+      by_cases None e = absurd (All-contains (λ o. ¬ IsTrue (test o)) ops op (least_from-None None ops e).1 is.present is.passes)
       by_cases (Some other) e =
           let it = least_by-IsLeast ops other e in
-          let le : key op ≤ key other = All-contains (λ o. IsTrue (test o) → key op ≤ key o) ops other is.least it.stands it.passes in
-          let ge : key other ≤ key op = All-contains (λ o. IsTrue (test o) → key other ≤ key o) ops op it.least is.stands is.passes in
-          e ∙ ap Some (told other op it.stands is.stands it.passes is.passes (omega arith))
+          let le : key op ≤ key other = All-contains (λ o. IsTrue (test o) → key op ≤ key o) ops other is.least it.present it.passes in
+          let ge : key other ≤ key op = All-contains (λ o. IsTrue (test o) → key other ≤ key o) ops op it.least is.present is.passes in
+          e ∙ ap Some (told other op it.present is.present it.passes is.passes (omega arith))
 
   -- a part of the list has the same least one, if for each that passes it has one that passes with no greater key
   pub least_among : (ops few : List Op) → AreTold ops → ((op : Op) → Contains few op → Contains ops op)
@@ -151,7 +151,7 @@ module _ (key : Op → ℕ) (test : Op → Bool) where
       by_cases (Some one) e =
           let it = least_by-IsLeast few one e in
           least_is ops one told (record {
-            stands = stand one it.stands;
+            present = stand one it.present;
             passes = it.passes;
             least = all_from (λ o. IsTrue (test o) → key one ≤ key o) ops (λ o h passes.
                 let b = best o h passes in

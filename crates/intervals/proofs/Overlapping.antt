@@ -20,7 +20,7 @@ use Rattle.intervals.proofs.Members.{all_from, begin_apart}
 
 -- a write of the list, and each write that begins before it precedes all that begin later
 pub record IsReached (ops : List Op) (w : Op) : Type 0 where
-  pub stands : Contains ops w
+  pub present : Contains ops w
   pub write : IsWrite w
   pub earlier : (v x : Op) → Contains ops v → Contains ops x → IsWrite v → IsWrite x → v.begin.0 < w.begin.0 → v.begin.0 < x.begin.0 → precedes v x ≡ true
 
@@ -88,8 +88,8 @@ module _ (ops : List Op) (ids : HasDistinctIds ops) (moments : HasDistinctMoment
 
   -- the first write of all is reached
   pub reached_first : (w : Op) → IsNextWrite ops None (Some w) → IsReached ops w
-  reached_first w (stands, write, behind, least) = record {
-    stands = stands;
+  reached_first w (present, write, following, least) = record {
+    present = present;
     write = write;
     earlier = λ v x sv sx wv wx lt gt.
         let le = All-contains (λ v. IsWrite v → Unit {0} → w.begin.0 ≤ v.begin.0) ops v least sv wv tt in absurd (omega arith);
@@ -97,8 +97,8 @@ module _ (ops : List Op) (ids : HasDistinctIds ops) (moments : HasDistinctMoment
 
   -- the next write is reached where the reached one precedes it
   pub reached_next : (w n : Op) → IsReached ops w → IsNextWrite ops (Some w.begin) (Some n) → precedes w n ≡ true → IsReached ops n
-  reached_next w n at (stands, write, behind, least) before = record {
-    stands = stands;
+  reached_next w n at (present, write, following, least) before = record {
+    present = present;
     write = write;
     earlier = λ v x sv sx wv wx lt gt. by_order v x sv sx wv wx lt gt (cases_order v.begin.0 w.begin.0);
   }
@@ -106,7 +106,7 @@ module _ (ops : List Op) (ids : HasDistinctIds ops) (moments : HasDistinctMoment
       by_order : (v x : Op) → Contains ops v → Contains ops x → IsWrite v → IsWrite x → v.begin.0 < n.begin.0 → v.begin.0 < x.begin.0
           → (v.begin.0 ≡ w.begin.0) ⊎ ((v.begin.0 < w.begin.0) ⊎ (w.begin.0 < v.begin.0)) → precedes v x ≡ true
       by_order v x sv sx wv wx lt gt (inl e) =
-          let same : w ≡ v = begin_apart ops moments w v at.stands sv (sym e) in
+          let same : w ≡ v = begin_apart ops moments w v at.present sv (sym e) in
           let le = All-contains (λ v. IsWrite v → w.begin.0 < v.begin.0 → n.begin.0 ≤ v.begin.0) ops x least sx wx (omega arith) in
           subst (λ (o : Op). precedes o x ≡ true) same (ends_earlier w.end n.begin x.begin before le)
       by_order v x sv sx wv wx lt gt (inr (inl sooner)) = at.earlier v x sv sx wv wx sooner gt
@@ -139,7 +139,7 @@ module _ (ops : List Op) (ids : HasDistinctIds ops) (moments : HasDistinctMoment
 
   -- where the reached one does not precede the next, the two are the first overlap
   pub overlap_found : (w n : Op) → IsReached ops w → IsNextWrite ops (Some w.begin) (Some n) → precedes w n ≡ false → first_overlap ops ≡ Some (w.id, n.id)
-  overlap_found w n at (stands, write, behind, least) overlapping =
+  overlap_found w n at (present, write, following, least) overlapping =
       ap (overlap_of ops) (least_is begin_number (overlaps_another ops) ops w (told (overlaps_another ops)) first)
       ∙ ap (option_map (ids_with w)) (least_is begin_number (is_overlapped w) ops n (told (is_overlapped w)) second)
     where
@@ -147,17 +147,17 @@ module _ (ops : List Op) (ids : HasDistinctIds ops) (moments : HasDistinctMoment
       other = false_unless (same_id n.id w.id) (λ t. is_other ((Decides-same_id_is n.id w.id).0 t))
         where
           is_other : ¬ (n.id ≡ w.id)
-          is_other e = let p = found_by_id ops n ids stands in let q = found_by_id ops w ids at.stands in let same : n ≡ w = cc in let b = ap (λ (o : Op). o.begin.0) same in omega arith
+          is_other e = let p = found_by_id ops n ids present in let q = found_by_id ops w ids at.present in let same : n ≡ w = cc in let b = ap (λ (o : Op). o.begin.0) same in omega arith
 
       over : is_overlapped w n ≡ true
-      over = rw (other, write, not_before n.end n.begin w.begin (All-contains (λ o. IfSome o.end (λ e. o.begin.0 < e.0)) ops n ends stands) (omega arith), overlapping) refl
+      over = rw (other, write, not_before n.end n.begin w.begin (All-contains (λ o. IfSome o.end (λ e. o.begin.0 < e.0)) ops n ends present) (omega arith), overlapping) refl
 
       has_over : overlaps_another ops w ≡ true
-      has_over = rw (at.write, list_any_at (is_overlapped w) ops stands.0 n stands.1 (rw stands.2 over)) refl
+      has_over = rw (at.write, list_any_at (is_overlapped w) ops present.0 n present.1 (rw present.2 over)) refl
 
       first : IsLeast begin_number (overlaps_another ops) ops w
       first = record {
-        stands = at.stands;
+        present = at.present;
         passes = has_over;
         least = all_from (λ o. IsTrue (overlaps_another ops o) → w.begin.0 ≤ o.begin.0) ops (λ o so t. by_order o so t (cases_order w.begin.0 o.begin.0));
       }
@@ -170,7 +170,7 @@ module _ (ops : List Op) (ids : HasDistinctIds ops) (moments : HasDistinctMoment
 
       second : IsLeast begin_number (is_overlapped w) ops n
       second = record {
-        stands = stands;
+        present = present;
         passes = over;
         least = all_from (λ o. IsTrue (is_overlapped w o) → n.begin.0 ≤ o.begin.0) ops (λ o so t. by_order o so t (cases_order w.begin.0 o.begin.0));
       }
@@ -179,6 +179,6 @@ module _ (ops : List Op) (ids : HasDistinctIds ops) (moments : HasDistinctMoment
           is_write_over o t = let parts = and_parts (not (same_id o.id w.id) && is_write o) (overlaps o w) t in (and_parts (not (same_id o.id w.id)) (is_write o) parts.0).1
 
           by_order : (o : Op) → Contains ops o → IsTrue (is_overlapped w o) → (w.begin.0 ≡ o.begin.0) ⊎ ((w.begin.0 < o.begin.0) ⊎ (o.begin.0 < w.begin.0)) → n.begin.0 ≤ o.begin.0
-          by_order o so t (inl e) = absurd (let none = over_none w o at.stands so (λ wo gt. absurd (omega arith)) (λ wo lt. absurd (omega arith)) in cc)
+          by_order o so t (inl e) = absurd (let none = over_none w o at.present so (λ wo gt. absurd (omega arith)) (λ wo lt. absurd (omega arith)) in cc)
           by_order o so t (inr (inl lt)) = All-contains (λ v. IsWrite v → w.begin.0 < v.begin.0 → n.begin.0 ≤ v.begin.0) ops o least so (is_write_over o t) lt
-          by_order o so t (inr (inr gt)) = absurd (let none = over_none w o at.stands so (λ wo less. absurd (omega arith)) (λ wo less. at.earlier o w so at.stands wo at.write gt gt) in cc)
+          by_order o so t (inr (inr gt)) = absurd (let none = over_none w o at.present so (λ wo less. absurd (omega arith)) (λ wo less. at.earlier o w so at.present wo at.write gt gt) in cc)

@@ -22,7 +22,7 @@ use Rattle.intervals.proofs.Agreement.{Decides-same_value}
 use Rattle.intervals.proofs.Found.{not_mapped}
 use Rattle.intervals.proofs.Fronts.{front_of, front_none, front_on, front_over, front_some, rest_of, rest_none, rest_past, rest_some}
 use Rattle.intervals.proofs.Ids.{none_of, not_found, other_way}
-use Rattle.intervals.proofs.Slots.{slot_stands}
+use Rattle.intervals.proofs.Slots.{slot_present}
 
 -- the first operation that passes a test, with one more at the end of the list
 pub find_past : (p : Op → Bool) (ops : List Op) (op : Op) → p op ≡ false → find p (ops ++ op ∷ []) ≡ find p ops
@@ -104,7 +104,7 @@ new_at [] (suc k) op distinct e = absurd (cc)
 new_at (slot ∷ slots) zero op distinct e = refl
 new_at (None ∷ slots) (suc k) op distinct e = new_at slots k op distinct e
 new_at (Some a ∷ slots) (suc k) op distinct e =
-    let later = All-contains (λ o. same_id o.id a.id ≡ false) (ops_in_slots slots) op (none_of (ops_in_slots slots) a.id distinct.0) (slot_stands slots k op e) in
+    let later = All-contains (λ o. same_id o.id a.id ≡ false) (ops_in_slots slots) op (none_of (ops_in_slots slots) a.id distinct.0) (slot_present slots k op e) in
     not_found a (front_of slots k) op.id (other_way op.id a.id later) (new_at slots k op distinct.1 e)
 
 more : (k : ℕ) → suc k ≡ k + 1

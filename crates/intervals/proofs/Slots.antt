@@ -11,19 +11,19 @@ use Rattle.intervals.specs.Edit.{amended, changed}
 use Rattle.intervals.specs.Table.{ops_in_slots, slot_at}
 
 -- an operation in a slot is one of the operations
-pub slot_stands : (slots : List (Option Op)) (i : ℕ) (op : Op) → slot_at slots i ≡ Some op → Contains (ops_in_slots slots) op
-slot_stands [] i op e = absurd (cc)
-slot_stands (None ∷ slots) zero op e = absurd (cc)
-slot_stands (Some a ∷ slots) zero op e = (0, omega arith, let same : a ≡ op = cc in same)
-slot_stands (None ∷ slots) (suc i) op e = slot_stands slots i op e
-slot_stands (Some a ∷ slots) (suc i) op e = let h = slot_stands slots i op e in (suc h.0, omega (arith, h.1), h.2)
+pub slot_present : (slots : List (Option Op)) (i : ℕ) (op : Op) → slot_at slots i ≡ Some op → Contains (ops_in_slots slots) op
+slot_present [] i op e = absurd (cc)
+slot_present (None ∷ slots) zero op e = absurd (cc)
+slot_present (Some a ∷ slots) zero op e = (0, omega arith, let same : a ≡ op = cc in same)
+slot_present (None ∷ slots) (suc i) op e = slot_present slots i op e
+slot_present (Some a ∷ slots) (suc i) op e = let h = slot_present slots i op e in (suc h.0, omega (arith, h.1), h.2)
 
 -- each operation is in a slot
-pub stands_in_slot : (slots : List (Option Op)) (op : Op) → Contains (ops_in_slots slots) op → (i : ℕ) × (slot_at slots i ≡ Some op)
-stands_in_slot [] op h = absurd (omega (arith, h.1))
-stands_in_slot (None ∷ slots) op h = let k = stands_in_slot slots op h in (suc k.0, k.1)
-stands_in_slot (Some a ∷ slots) op (zero, lt, e) = (0, ap Some e)
-stands_in_slot (Some a ∷ slots) op (suc k, lt, e) = let h = stands_in_slot slots op (k, omega arith, e) in (suc h.0, h.1)
+pub present_in_slot : (slots : List (Option Op)) (op : Op) → Contains (ops_in_slots slots) op → (i : ℕ) × (slot_at slots i ≡ Some op)
+present_in_slot [] op h = absurd (omega (arith, h.1))
+present_in_slot (None ∷ slots) op h = let k = present_in_slot slots op h in (suc k.0, k.1)
+present_in_slot (Some a ∷ slots) op (zero, lt, e) = (0, ap Some e)
+present_in_slot (Some a ∷ slots) op (suc k, lt, e) = let h = present_in_slot slots op (k, omega arith, e) in (suc h.0, h.1)
 
 pub slot_within : (slots : List (Option Op)) (i : ℕ) (op : Op) → slot_at slots i ≡ Some op → i < length slots
 slot_within [] i op e = absurd (cc)

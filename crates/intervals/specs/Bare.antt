@@ -2,7 +2,7 @@
 use Rattle.std.specs.Prelude.{ℕ, List, [], map, None}
 use Rattle.std.specs.Borrow.{Bor}
 use Rattle.intervals.specs.declared.operation.Op.{Op}
-use Rattle.intervals.specs.declared.operation.Parts.{Parts}
+use Rattle.intervals.specs.declared.operation.OpParts.{OpParts}
 use Rattle.intervals.specs.declared.edit.Change.{Change}
 use Rattle.intervals.specs.declared.edit.Lent.TheVariants.{Answer}
 use Rattle.intervals.specs.declared.edit.Edit.{Edit}
@@ -14,7 +14,7 @@ abbrev pub no_text : Bor (List ℕ)
 no_text = record { ref_ptr = (0, 0); now = [] }
 
 -- the parts of an operation without texts: an empty invocation, no answer, and no amendment
-abbrev pub no_parts : Parts
+abbrev pub no_parts : OpParts
 no_parts = record { invocation = no_text; answer = None; amendment = None }
 
 -- the operation without its texts

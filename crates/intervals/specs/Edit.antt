@@ -4,7 +4,7 @@ use Rattle.intervals.specs.declared.operation.Op.{Op}
 use Rattle.intervals.specs.declared.operation.OpId.{OpId}
 use Rattle.intervals.specs.declared.operation.Act.{Act}
 use Rattle.intervals.specs.declared.operation.Act.TheVariants.{Read, Write}
-use Rattle.intervals.specs.declared.operation.Parts.{Parts}
+use Rattle.intervals.specs.declared.operation.OpParts.{OpParts}
 use Rattle.intervals.specs.declared.operation.Value.{Value}
 use Rattle.intervals.specs.declared.edit.Change.{Change}
 use Rattle.intervals.specs.declared.edit.Lent.{Lent}
@@ -21,7 +21,7 @@ act_with (Read old) (Some new) = Read new
 act_with (Write old) (Some new) = Write new
 
 -- the parts of an operation with the text of a change as its answer, or as its amendment
-abbrev pub parts_with : Parts → Lent → Parts
+abbrev pub parts_with : OpParts → Lent → OpParts
 parts_with parts (Answer text) = record parts { answer = Some text }
 parts_with parts (Amendment text) = record parts { amendment = Some text }
 

@@ -12,7 +12,7 @@ use Rattle.intervals.specs.Operation.{Precedes, Overlaps, IsWrite, IsJudgedRead,
 
 -- the write `w` is the last that precedes `r`: it is in the list, and no write that precedes `r` begins later
 pub record IsLastBefore (ops : List Op) (r w : Op) : Type 0 where
-  pub stands : Contains ops w
+  pub present : Contains ops w
   pub write : IsWrite w
   pub before : Precedes w r
   pub last : All (λ v. IsWrite v → Precedes v r → v.begin.0 ≤ w.begin.0) ops

@@ -22,6 +22,6 @@ least_by key test ops = least_from key test None ops
 
 -- the operation is in the list and passes the test, and none in the list that passes has a lesser key
 pub record IsLeast (key : Op → ℕ) (test : Op → Bool) (ops : List Op) (op : Op) : Type 0 where
-  pub stands : Contains ops op
+  pub present : Contains ops op
   pub passes : IsTrue (test op)
   pub least : All (λ other. IsTrue (test other) → key op ≤ key other) ops

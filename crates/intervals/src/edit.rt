@@ -3,7 +3,7 @@
 ghost use Rattle.std.specs.Prelude.{◌≡◌};
 ghost use Rattle.intervals.specs.Edit.{changed, edit_id, act_with, parts_with};
 
-use crate::{Act, Kind, Moment, Op, OpId, Parts, Value};
+use crate::{Act, Kind, Moment, Op, OpId, OpParts, Value};
 
 /// The element that a change was read from, as text: it becomes the operation's answer, or its amendment.
 #[derive(Clone, Copy)]
@@ -70,15 +70,15 @@ fn with_value(act: Act, value: Option<Value>) -> Act
     }
 }
 
-fn with_part<'t>(parts: Parts<'t>, lent: Lent<'t>) -> Parts<'t>
+fn with_part<'t>(parts: OpParts<'t>, lent: Lent<'t>) -> OpParts<'t>
     ensures { result ≡ parts_with parts.entry lent.entry }
 {
     match lent {
-        Lent::Answer(text) => Parts {
+        Lent::Answer(text) => OpParts {
             answer: Some(text),
             ..parts
         },
-        Lent::Amendment(text) => Parts {
+        Lent::Amendment(text) => OpParts {
             amendment: Some(text),
             ..parts
         },

@@ -117,7 +117,7 @@ pub fn edits_keep_operations_apart()
 {}
 
 /// Operations for which `StandApart` is true can be appended again in their order, each to those before it.
-pub fn what_stands_apart_is_accepted()
+pub fn operations_apart_are_accepted()
     ensures { (claim : ClaimModel) (front rest : List Op) (op : Op) → StandApart claim (front ++ op ∷ rest) → reply_to claim front (Append op) ≡ None }
 {}
 
@@ -216,7 +216,7 @@ pub fn worked_claims()
 
 /// What stands after edits, of which the refused ones change nothing.
 pub fn worked_edits()
-    ensures stands { (standing (unedited (plain_claim Safe (number 0) None)) edits_with_refused_ones).ops ≡ mended (from_to 0 (Write (number 1)) 0 9) ∷ op 4 (Read Nil) 4 None ∷ [] }
+    ensures present { (standing (unedited (plain_claim Safe (number 0) None)) edits_with_refused_ones).ops ≡ mended (from_to 0 (Write (number 1)) 0 9) ∷ op 4 (Read Nil) 4 None ∷ [] }
     ensures found { op_of (standing (unedited (plain_claim Safe (number 0) None)) edits_with_refused_ones).ops (place 1) ≡ None }
     ensures overlaps { Overlaps (from_to 0 (Write (number 1)) 0 9) (op 1 (Read Nil) 2 None) }
     ensures precedes { Precedes (from_to 0 (Write (number 1)) 0 9) (op 1 (Read Nil) 10 None) }

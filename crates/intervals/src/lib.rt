@@ -44,7 +44,7 @@ pub use book::OpBook;
 pub use claim::{Claim, Holder, Initial, Kind, Writers};
 pub use edit::{Change, Edit, Lent, changed};
 pub use operation::{
-    Act, Memory, Moment, Op, OpId, Parts, RegId, Value, is_same_value, overlaps, precedes,
+    Act, Memory, Moment, Op, OpId, OpParts, RegId, Value, is_same_value, overlaps, precedes,
 };
 pub use ordered_index::{OrderedIndex, Spot};
 pub use refusal::Refusal;

@@ -55,7 +55,7 @@ pub enum Act {
 
 /// The elements of the trace that an operation was read from, as text, tags included.
 #[derive(Clone, Copy)]
-pub struct Parts<'t> {
+pub struct OpParts<'t> {
     pub invocation: &'t [u8],
     pub answer: Option<&'t [u8]>,
     pub amendment: Option<&'t [u8]>,
@@ -69,7 +69,7 @@ pub struct Op<'t> {
     pub act: Act,
     pub begin: Moment,
     pub end: Option<Moment>,
-    pub parts: Parts<'t>,
+    pub parts: OpParts<'t>,
 }
 
 impl Op<'_> {

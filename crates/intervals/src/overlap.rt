@@ -54,7 +54,7 @@ impl<'t> OpTable<'t> {
     {
         match turn {
             Some(turn) => {
-                let (_, id) = first_behind(turn, after)?;
+                let (_, id) = first_following(turn, after)?;
                 self.get(id).copied()
             }
             None => next_among(self.slots(), after),
@@ -100,7 +100,7 @@ fn put_in_turn(turn: &mut OrderedIndex, op: &Op) -> Result<(), Memory>
 }
 
 /// The first id after the moment, or of all where none is given, with its moment; in an index of moments alone.
-fn first_behind(turn: &OrderedIndex, after: Option<Moment>) -> Option<(Moment, OpId)>
+fn first_following(turn: &OrderedIndex, after: Option<Moment>) -> Option<(Moment, OpId)>
     ensures { MatchOption result
         ((m : AMoment) → IsLaterThan after m → id_at turn.now (spot_then m) ≡ None)
         (λ found. IsLaterThan after found.0 × (id_at turn.now (spot_then found.0) ≡ Some found.1)
@@ -132,7 +132,7 @@ fn comes_sooner(op: &Op, after: Option<Moment>, next: &Option<Op>) -> bool
     ensures sooner { result ≡ true → IsWrite op.now × IsLaterThan after op.now.begin × IfSome next.now (λ n. op.now.begin.0 < n.begin.0) }
     ensures not { result ≡ false → IsWrite op.now → IsLaterThan after op.now.begin → IsSomeAnd next.now (λ n. n.begin.0 ≤ op.now.begin.0) }
 {
-    let is_behind = match after {
+    let is_following = match after {
         Some(after) => after.0 < op.begin.0,
         None => true,
     };
@@ -140,5 +140,5 @@ fn comes_sooner(op: &Op, after: Option<Moment>, next: &Option<Op>) -> bool
         Some(next) => op.begin.0 < next.begin.0,
         None => true,
     };
-    op.is_write() && is_behind && is_before
+    op.is_write() && is_following && is_before
 }

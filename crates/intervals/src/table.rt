@@ -184,7 +184,7 @@ impl<'t> OpTable<'t> {
 
     /// Puts the operation in the slot of the one of its id. The slot `first` is tried before the id is looked up.
     fn amend(&mut self, op: &Op<'t>, first: usize)
-        requires stands { IsSome (op_of self.old.ops op.now.id) }
+        requires present { IsSome (op_of self.old.ops op.now.id) }
         requires accepted { moments_refusal self.old.ops op.now ≡ None }
         requires room { self.old.prepared ≡ Some op.now }
         ensures { (id : AnId) (change : AChange) → new_op self.old.ops (Edit.Amend id change) ≡ Some op.now → self.new ≡ admitted self.old (Edit.Amend id change) }

@@ -142,9 +142,6 @@ pub record Noted (map : FlatMap) (chosen : MomentField) (form : EventFields) : T
   pub read : HasRead map pairs
   pub fields : seen_all form ≡ after chosen nothing pairs
 
-pub noted_first : (map : FlatMap) (chosen : MomentField) (form : EventFields) → HasRead map [] → seen_all form ≡ nothing → Noted map chosen form
-noted_first map chosen form read none = record { pairs = []; read = read; fields = none }
-
 pub noted_next : (map next : FlatMap) (chosen : MomentField) (form more : EventFields) (key value : Element) (noted_so_far : Noted map chosen form)
     → HasRead next (noted_so_far.pairs ++ (piece_of key, piece_of value) ∷ []) → seen_all more ≡ noted chosen (seen_all form) (keyword_of (piece_of key)) (piece_of value) → Noted next chosen more
 noted_next map next chosen form more key value so_far read e = record {

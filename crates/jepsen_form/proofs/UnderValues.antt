@@ -46,12 +46,6 @@ both view one two after first second next_first next_second ended members left =
         let nothing : pieces ≡ [] = ended pieces second_is.1 in
         rw (given.0, second_is.0, nothing) refl
 
-pub nothing_said : (said : UnderValue) → IsUnderValue Missing said → NoValue ≡ said
-nothing_said said missing = refl
-
-pub said_twice : (said : UnderValue) → IsUnderValue Many said → ManyValues ≡ said
-said_twice said repeated = refl
-
 pub no_vector : (piece : ElementModel) → ((members : List ElementModel) → HasMembers piece members → ⊥) → (said : UnderValue) → IsUnderValue (One piece) said → AValue piece ≡ said
 no_vector piece none said (plain other) = refl
 no_vector piece none said (vector members has is) = absurd (none members has)

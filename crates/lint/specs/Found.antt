@@ -9,7 +9,7 @@ use Rattle.logs.specs.declared.log.Log.{Log}
 use Rattle.logs.specs.declared.log.What.{What}
 use Rattle.logs.specs.declared.log.What.TheVariants as whats
 use Rattle.lint.specs.declared.finding.Amiss.TheVariants as amiss
-use Rattle.lint.specs.declared.finding.Finding.{Finding}
+use Rattle.lint.specs.declared.finding.Problem.{Problem}
 use Rattle.lint.specs.declared.finding.TraceFindings.{TraceFindings}
 use Rattle.places.specs.declared.location.Location.{Location}
 use Rattle.places.specs.LineColumn.{first_place}
@@ -20,16 +20,16 @@ abbrev pub spot_at : List Location → ℕ → Location
 spot_at spots number = slice_index_or spots number (record { start = 0; end = 0; place = first_place })
 
 -- what a log notes of the element of this number, as findings: a refusal is one, an answer is none
-abbrev pub found_of_what : List Location → ℕ → What → List Finding
+abbrev pub found_of_what : List Location → ℕ → What → List Problem
 found_of_what spots event (whats.Refused code) = record { what = amiss.Refused event code; spot = spot_at spots event } ∷ []
 found_of_what spots event (whats.Answered register answer) = []
 
 -- a log line as findings: a refusal is one, an answer is none
-abbrev pub found_of_line : List Location → Line → List Finding
+abbrev pub found_of_line : List Location → Line → List Problem
 found_of_line spots line = found_of_what spots line.event line.what
 
 -- where a trace broke, as a finding; none where it did not break
-abbrev pub found_of_break : List ℕ → Option Broken → List Finding
+abbrev pub found_of_break : List ℕ → Option Broken → List Problem
 found_of_break text None = []
 found_of_break text (Some broken) = record { what = amiss.Broken broken.code; spot = spot_of_byte text broken.place } ∷ []
 

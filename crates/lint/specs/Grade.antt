@@ -7,7 +7,7 @@ use Rattle.logs.specs.Code.{break_code_of, refused_code as code_of_refused}
 use Rattle.tower_file.specs.Tower.{tower_fault_code as code_of_fault}
 use Rattle.lint.specs.declared.finding.Amiss.{Amiss}
 use Rattle.lint.specs.declared.finding.Amiss.TheVariants.{Refused, Broken, Tower, Noted}
-use Rattle.lint.specs.declared.finding.Finding.{Finding}
+use Rattle.lint.specs.declared.finding.Problem.{Problem}
 use Rattle.lint.specs.declared.finding.Grade.{Grade}
 use Rattle.lint.specs.declared.finding.Grade.TheVariants as grades
 use Rattle.lint.specs.declared.finding.Note.{Note}
@@ -62,7 +62,7 @@ same_grade grades.Note grades.Warning = false
 same_grade grades.Note grades.Note = true
 
 -- a finding is of this grade
-abbrev pub is_of_grade : Grade → Finding → Bool
+abbrev pub is_of_grade : Grade → Problem → Bool
 is_of_grade grade finding = same_grade (grade_of finding.what) grade
 
 -- a finding of some trace is of this grade
@@ -70,7 +70,7 @@ abbrev pub has_grade : Grade → List TraceFindings → Bool
 has_grade grade traces = list_any (λ trace. list_any (is_of_grade grade) trace.findings.items) traces
 
 -- a note has this code
-abbrev pub is_of_code : List ℕ → Finding → Bool
+abbrev pub is_of_code : List ℕ → Problem → Bool
 is_of_code code note = bytes_eq (finding_code note.what) code
 
 -- a note of some trace has this code

@@ -3,7 +3,7 @@ use Rattle.std.specs.Prelude.{◌≡◌, ℕ, List, [], ◌∷◌, Option, Some,
 use Rattle.std.specs.declared.alloc.Global.{Global}
 use Rattle.tower_file.specs.declared.fault.TowerFault.{TowerFault}
 use Rattle.lint.specs.declared.finding.Amiss.TheVariants.{Tower}
-use Rattle.lint.specs.declared.finding.Finding.{Finding}
+use Rattle.lint.specs.declared.finding.Problem.{Problem}
 use Rattle.lint.specs.declared.finding.TraceFindings.{TraceFindings}
 use Rattle.places.specs.declared.location.Location.{Location}
 use Rattle.places.specs.LineColumn.{place_of_byte}
@@ -15,7 +15,7 @@ spot_of_span text (Some span) = record { start = span.0; end = span.1; place = p
 spot_of_span text None = spot_of_byte text 0
 
 -- what is found is of one file, with these findings and notes
-pub record IsOneFile (findings notes : Vec Finding Global) (traces : List TraceFindings) : Type 0 where
+pub record IsOneFile (findings notes : Vec Problem Global) (traces : List TraceFindings) : Type 0 where
   pub one : TraceFindings
   pub traces_are : traces ≡ one ∷ []
   pub findings_are : one.findings ≡ findings

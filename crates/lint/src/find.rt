@@ -7,8 +7,8 @@ ghost use Rattle.shards.specs.Closing.{book_of};
 ghost use Rattle.lint.specs.Idle.{is_unused, unused_among};
 ghost use Rattle.lint.specs.Found.{AreFoundIn, IsFoundIn, NamesElements, found_of_break, found_of_line};
 
-use crate::finding::{Amiss, Finding, Findings, TraceFindings};
-use crate::notes::{Look, Noted, notes_of};
+use crate::finding::{Amiss, Findings, Problem, TraceFindings};
+use crate::notes::{Context, Noted, notes_of};
 use crate::suspect::Suspects;
 use intervals::RegId;
 use jepsen_form::MomentField;
@@ -36,13 +36,13 @@ pub fn lint_traces(
     ensures unused { IfOk result (λ found. found.unused.items ≡ unused_among run.now.closed (length tower.now.registers)) }
 {
     let suspects = Suspects::of(alloc, tower, &run.closed)?;
-    let look = Look {
+    let context = Context {
         alloc,
         tower,
         field,
         suspects: &suspects,
     };
-    let traces = find_all(&look, texts, run.logs.as_slice())?;
+    let traces = find_all(&context, texts, run.logs.as_slice())?;
     let unused = unused_in(alloc, tower, &run.closed)?;
     Ok(Findings { traces, unused })
 }
@@ -68,32 +68,41 @@ fn is_unused(closed: &Closed, id: RegId) -> bool
 }
 
 /// The findings of each trace, by its log.
-fn find_all(look: &Look, texts: &[&[u8]], logs: &[Log]) -> Result<Vec<TraceFindings>, AllocError>
+fn find_all(
+    context: &Context,
+    texts: &[&[u8]],
+    logs: &[Log],
+) -> Result<Vec<TraceFindings>, AllocError>
     requires each { length logs.now ≡ length texts.now }
     requires named { AllZip NamesElements (map (λ text. text.now) texts.now) logs.now }
     ensures found { IfOk result (λ traces. AreFoundIn (map (λ text. text.now) texts.entry.now) logs.now traces.items) }
 {
-    let mut traces = Vec::new(look.alloc);
+    let mut traces = Vec::new(context.alloc);
     for number in 0..texts.len() {
-        traces.push(find_in(look, number, texts[number], &logs[number])?)?;
+        traces.push(find_in(context, number, texts[number], &logs[number])?)?;
     }
     Ok(traces)
 }
 
 /// The findings of one trace: its refusals in the order of its elements, and where it broke.
-fn find_in(look: &Look, feeder: usize, text: &[u8], log: &Log) -> Result<TraceFindings, AllocError>
+fn find_in(
+    context: &Context,
+    feeder: usize,
+    text: &[u8],
+    log: &Log,
+) -> Result<TraceFindings, AllocError>
     requires named { NamesElements text.now log.now }
     ensures found { IfOk result (IsFoundIn text.now log.now) }
 {
-    let found = elements_of(look.alloc, text)?;
-    let mut findings = Vec::new(look.alloc);
+    let found = elements_of(context.alloc, text)?;
+    let mut findings = Vec::new(context.alloc);
     push_lines(&mut findings, found.spots.as_slice(), log.lines.as_slice())?;
     push_break(&mut findings, text, log.broken)?;
     let Noted {
         notes,
         unfinished,
         processes,
-    } = notes_of(look, feeder, text, &found, log.lines.as_slice())?;
+    } = notes_of(context, feeder, text, &found, log.lines.as_slice())?;
     Ok(TraceFindings {
         spots: found.spots,
         findings,
@@ -104,7 +113,7 @@ fn find_in(look: &Look, feeder: usize, text: &[u8], log: &Log) -> Result<TraceFi
 }
 
 fn push_lines(
-    findings: &mut Vec<Finding>,
+    findings: &mut Vec<Problem>,
     spots: &[Location],
     lines: &[Line],
 ) -> Result<(), AllocError>
@@ -120,12 +129,12 @@ fn push_lines(
 }
 
 /// The finding of a log line: a refusal is one, an answer is none.
-fn finding_of_line(spots: &[Location], line: &Line) -> Option<Finding>
+fn finding_of_line(spots: &[Location], line: &Line) -> Option<Problem>
     requires named { line.now.event < length spots.now }
     ensures { option_to_list result ≡ found_of_line spots.now line.now }
 {
     match line.what {
-        What::Refused(code) => Some(Finding {
+        What::Refused(code) => Some(Problem {
             what: Amiss::Refused(line.event, code),
             spot: spots[line.event as usize],
         }),
@@ -134,14 +143,14 @@ fn finding_of_line(spots: &[Location], line: &Line) -> Option<Finding>
 }
 
 fn push_break(
-    findings: &mut Vec<Finding>,
+    findings: &mut Vec<Problem>,
     text: &[u8],
     broken: Option<Broken>,
 ) -> Result<(), AllocError>
     ensures { OnOk result (findings.new.items ≡ findings.old.items ++ found_of_break text.now broken) }
 {
     if let Some(broken) = broken {
-        findings.push(Finding {
+        findings.push(Problem {
             what: Amiss::Broken(broken.code),
             spot: spot_of_one(text, broken.place as usize),
         })?;

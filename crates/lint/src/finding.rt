@@ -68,7 +68,7 @@ pub enum Grade {
 
 /// What is amiss, and where.
 #[derive(Clone, Copy)]
-pub struct Finding {
+pub struct Problem {
     pub what: Amiss,
     pub spot: Location,
 }
@@ -77,8 +77,8 @@ pub struct Finding {
 #[derive(Drop)]
 pub struct TraceFindings {
     pub spots: Vec<Location>,
-    pub findings: Vec<Finding>,
-    pub notes: Vec<Finding>,
+    pub findings: Vec<Problem>,
+    pub notes: Vec<Problem>,
     /// For each element, whether it is an invocation that has neither an `:ok` nor a `:fail`.
     pub unfinished: Vec<bool>,
     /// The processes of the trace's events.
@@ -225,7 +225,7 @@ impl Findings {
     }
 }
 
-fn is_of(finding: &Finding, grade: Grade) -> bool
+fn is_of(finding: &Problem, grade: Grade) -> bool
     ensures { result ≡ is_of_grade grade finding.now }
 {
     match (finding.what.grade(), grade) {

@@ -1,6 +1,6 @@
 //! Findings as GitHub's workflow commands, which annotate files.
 
-use crate::finding::{Finding, Findings, Grade};
+use crate::finding::{Findings, Grade, Problem};
 use crate::message::push_message;
 use crate::source::SourceText;
 use std::alloc::AllocError;
@@ -25,7 +25,7 @@ pub fn push_github(
 fn push_commands(
     text: &mut String,
     source: &SourceText,
-    findings: &[Finding],
+    findings: &[Problem],
 ) -> Result<(), AllocError> {
     for finding in findings {
         push_command(text, source, finding)?;
@@ -36,7 +36,7 @@ fn push_commands(
 fn push_command(
     text: &mut String,
     source: &SourceText,
-    finding: &Finding,
+    finding: &Problem,
 ) -> Result<(), AllocError> {
     let (what, place) = (&finding.what, &finding.spot.place);
     write!(text, "::{} file=", command_of(what.grade()))?;

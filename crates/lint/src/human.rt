@@ -1,7 +1,7 @@
 //! Findings as people read them, each with the line that it is in.
 
 use crate::bracket::{innermost_open, next_map_line};
-use crate::finding::{Amiss, Finding, Findings, Grade, Note};
+use crate::finding::{Amiss, Findings, Grade, Note, Problem};
 use crate::head::{push_head, push_place};
 use crate::hint::hint_of;
 use crate::message::{field_word, push_id, tower_word};
@@ -35,7 +35,7 @@ struct Case<'c, 'a> {
     view: &'c View<'a>,
     trace: usize,
     source: &'a SourceText<'a>,
-    finding: &'a Finding,
+    finding: &'a Problem,
     width: usize,
     before: usize,
 }
@@ -119,7 +119,7 @@ fn push_cases<'a>(
     text: &mut String,
     view: &View<'a>,
     trace: usize,
-    findings: &'a [Finding],
+    findings: &'a [Problem],
     tally: &mut Tally,
 ) -> Result<(), AllocError> {
     let Some(source) = view.sources.get(trace) else {
@@ -319,7 +319,7 @@ fn invocation_of<'a>(view: &View<'a>, id: &OpId) -> Option<(&'a SourceText<'a>, 
 }
 
 /// The greatest line number that is shown with a finding.
-fn last_line(view: &View, finding: &Finding) -> usize {
+fn last_line(view: &View, finding: &Problem) -> usize {
     let line = finding.spot.place.line;
     match &finding.what {
         Amiss::Refused(_, code) => {

@@ -1,6 +1,6 @@
 //! Findings as JSON records, one a line.
 
-use crate::finding::{Amiss, Finding, Findings, Note};
+use crate::finding::{Amiss, Findings, Note, Problem};
 use crate::message::push_message;
 use crate::quoted::push_quoted;
 use crate::snippet::part_of;
@@ -38,7 +38,7 @@ fn push_records(
     alloc: Global,
     source: &SourceText,
     trace: usize,
-    findings: &[Finding],
+    findings: &[Problem],
 ) -> Result<(), AllocError> {
     for finding in findings {
         push_record(text, alloc, source, trace, finding)?;
@@ -51,7 +51,7 @@ fn push_record(
     alloc: Global,
     source: &SourceText,
     trace: usize,
-    finding: &Finding,
+    finding: &Problem,
 ) -> Result<(), AllocError> {
     let what = &finding.what;
     push_names(text, alloc, what)?;

@@ -1,6 +1,6 @@
 //! What is taken of a trace as it is, and may not be meant. Nothing is left out for it.
 
-use crate::finding::{Amiss, Finding, Note};
+use crate::finding::{Amiss, Note, Problem};
 use crate::nearest::{is_absent, meant_by};
 use crate::suspect::Suspects;
 use edn_reader::{Element, Field, MapView};
@@ -14,7 +14,7 @@ use tower_file::Tower;
 
 /// What the elements of a trace are looked at with.
 #[derive(Clone, Copy)]
-pub struct Look<'a> {
+pub struct Context<'a> {
     pub alloc: Global,
     pub tower: &'a Tower,
     pub field: MomentField,
@@ -24,7 +24,7 @@ pub struct Look<'a> {
 /// What is noted of a trace.
 #[derive(Drop)]
 pub struct Noted {
-    pub notes: Vec<Finding>,
+    pub notes: Vec<Problem>,
     /// For each element, whether it is an invocation that has neither an `:ok` nor a `:fail`.
     pub unfinished: Vec<bool>,
     /// The processes of the trace's events.
@@ -33,7 +33,7 @@ pub struct Noted {
 
 /// What is known of a trace after the elements so far.
 #[derive(Drop)]
-struct Watch<'a> {
+struct TraceSoFar<'a> {
     /// Where the elements are.
     spots: &'a [Location],
     /// The invocations that have no answer so far, by process.
@@ -56,7 +56,7 @@ struct Timed {
 
 /// An element of a trace, by its number, and the code by which it is refused, if it is.
 #[derive(Clone, Copy)]
-struct Seen<'a> {
+struct NumberedElement<'a> {
     feeder: usize,
     number: u64,
     element: &'a Element<'a>,
@@ -68,25 +68,25 @@ const MEANT: &[FormField] = &[FormField::Process, FormField::Stage, FormField::V
 
 /// The notes of a trace, by place. The elements are those of the text, and the lines those of its log.
 pub fn notes_of(
-    look: &Look,
+    context: &Context,
     feeder: usize,
     text: &[u8],
     found: &Elements,
     lines: &[Line],
 ) -> Result<Noted, AllocError> {
     let mut cursor = Cursor::new(text);
-    let mut watch = Watch::new(look.alloc, found.spots.as_slice());
+    let mut watch = TraceSoFar::new(context.alloc, found.spots.as_slice());
     let mut ahead = lines;
     for at in 0..found.elements.len() {
         let number = at as u64;
         ahead = lines_from(ahead, number);
-        let seen = Seen {
+        let seen = NumberedElement {
             feeder,
             number,
             element: &found.elements[at],
             refused: refused_by(ahead, number),
         };
-        watch.look_at(look, &mut cursor, &seen)?;
+        watch.look_at(context, &mut cursor, &seen)?;
     }
     watch.end(text)
 }
@@ -108,9 +108,9 @@ fn refused_by(lines: &[Line], number: u64) -> Option<Code> {
     }
 }
 
-impl<'a> Watch<'a> {
-    fn new(alloc: Global, spots: &'a [Location]) -> Watch<'a> {
-        Watch {
+impl<'a> TraceSoFar<'a> {
+    fn new(alloc: Global, spots: &'a [Location]) -> TraceSoFar<'a> {
+        TraceSoFar {
             spots,
             unanswered: BTreeMap::new(alloc),
             moments: BTreeMap::new(alloc),
@@ -133,23 +133,28 @@ impl<'a> Watch<'a> {
     }
 
     fn note_at(&mut self, number: u64, note: Note, spot: Location) -> Result<(), AllocError> {
-        self.noted.notes.push(Finding {
+        self.noted.notes.push(Problem {
             what: Amiss::Noted(Some(number), note),
             spot,
         })?;
         Ok(())
     }
 
-    fn look_at(&mut self, look: &Look, cursor: &mut Cursor, seen: &Seen) -> Result<(), AllocError> {
+    fn look_at(
+        &mut self,
+        context: &Context,
+        cursor: &mut Cursor,
+        seen: &NumberedElement,
+    ) -> Result<(), AllocError> {
         self.noted.unfinished.push(false)?;
         let Some(map) = seen.element.as_map() else {
             return Ok(());
         };
-        match read_item(*seen.element, look.field, look.tower) {
-            Ok(Item::Event(event)) => self.look_at_event(look, cursor, &map, &event, seen),
+        match read_item(*seen.element, context.field, context.tower) {
+            Ok(Item::Event(event)) => self.look_at_event(context, cursor, &map, &event, seen),
             Ok(Item::Skipped) => self.look_at_skipped(&map, seen.number),
-            Ok(item) => self.look_at_edit(look.suspects, &item, seen),
-            Err(_) => self.look_at_fields(look.alloc, cursor, &map, MEANT, seen.number),
+            Ok(item) => self.look_at_edit(context.suspects, &item, seen),
+            Err(_) => self.look_at_fields(context.alloc, cursor, &map, MEANT, seen.number),
         }
     }
 
@@ -165,7 +170,7 @@ impl<'a> Watch<'a> {
         &mut self,
         suspects: &Suspects,
         item: &Item,
-        seen: &Seen,
+        seen: &NumberedElement,
     ) -> Result<(), AllocError> {
         match edited_by(suspects, item, seen.feeder) {
             Some(operation) if seen.refused.is_some() => {
@@ -195,24 +200,24 @@ impl<'a> Watch<'a> {
 
     fn look_at_event(
         &mut self,
-        look: &Look,
+        context: &Context,
         cursor: &mut Cursor,
         map: &MapView,
         event: &Event,
-        seen: &Seen,
+        seen: &NumberedElement,
     ) -> Result<(), AllocError> {
         self.noted.processes.insert(event.process)?;
         if is_absent(&map.field(b":value")) {
             if wants_value(event) {
                 self.note(seen.number, Note::NoValue)?;
             }
-            self.look_at_fields(look.alloc, cursor, map, &[FormField::Value], seen.number)?;
+            self.look_at_fields(context.alloc, cursor, map, &[FormField::Value], seen.number)?;
         }
         if let Some(moment) = event.moment {
             self.look_at_moment(moment.0, seen.number)?;
             self.look_at_last(moment.0, seen.number)?;
         }
-        match suspect_of(look.suspects, event) {
+        match suspect_of(context.suspects, event) {
             Some(read) if seen.refused.is_some() => self.note(seen.number, Note::Rests(read))?,
             _ => {}
         }
@@ -275,7 +280,7 @@ impl<'a> Watch<'a> {
 
     /// The notes, with those of the end of a trace.
     fn end(self, text: &[u8]) -> Result<Noted, AllocError> {
-        let Watch {
+        let TraceSoFar {
             spots,
             unanswered,
             invoked,
@@ -284,7 +289,7 @@ impl<'a> Watch<'a> {
         } = self;
         for (_, number) in &unanswered {
             if let Some(spot) = spots.get(*number as usize) {
-                noted.notes.push(Finding {
+                noted.notes.push(Problem {
                     what: Amiss::Noted(Some(*number), Note::Unanswered),
                     spot: *spot,
                 })?;
@@ -292,7 +297,7 @@ impl<'a> Watch<'a> {
         }
         noted.notes.sort_by_key(|note| note.spot.start)?;
         if !invoked {
-            noted.notes.push(Finding {
+            noted.notes.push(Problem {
                 what: Amiss::Noted(None, Note::NoOperation),
                 spot: spot_of_one(text, 0),
             })?;

@@ -3,7 +3,7 @@
 ghost use Rattle.std.specs.Prelude.{◌≡◌, ◌++◌, OnOk, length, string_bytes};
 ghost use Rattle.lint.specs.Short.{short_line, short_lines, short_text};
 
-use crate::finding::{Finding, Findings};
+use crate::finding::{Findings, Problem};
 use crate::head::{push_head, push_place};
 use crate::source::SourceText;
 use std::alloc::AllocError;
@@ -28,7 +28,7 @@ pub fn push_short(
 fn push_lines(
     text: &mut String,
     source: &SourceText,
-    findings: &[Finding],
+    findings: &[Problem],
 ) -> Result<(), AllocError>
     ensures { OnOk result (string_bytes text.new ≡ string_bytes text.old ++ short_lines source.now.name.now findings.now) }
 {
@@ -38,7 +38,7 @@ fn push_lines(
     Ok(())
 }
 
-fn push_line(text: &mut String, source: &SourceText, finding: &Finding) -> Result<(), AllocError>
+fn push_line(text: &mut String, source: &SourceText, finding: &Problem) -> Result<(), AllocError>
     ensures { OnOk result (string_bytes text.new ≡ string_bytes text.old ++ short_line source.now.name.now finding.now) }
 {
     push_place(text, source, &finding.spot)?;

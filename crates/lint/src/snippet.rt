@@ -17,7 +17,7 @@ const LONGEST: usize = 24;
 
 /// The line of a mark from `start` to `end`, what is shown of it from `from` to `to`, and the byte that is marked.
 #[derive(Clone, Copy)]
-struct Window {
+struct Excerpt {
     start: usize,
     from: usize,
     at: usize,
@@ -53,7 +53,7 @@ pub fn push_mark(
 }
 
 /// What is shown of a line: as much as there is room for, with some bytes before the marked one.
-fn window_of(text: &[u8], spot: &Location) -> Window {
+fn window_of(text: &[u8], spot: &Location) -> Excerpt {
     let at = spot.start.min(text.len());
     let start = at - at.min(spot.place.column.saturating_sub(1));
     let end = match memchr(b'\n', &text[at..]) {
@@ -65,7 +65,7 @@ fn window_of(text: &[u8], spot: &Location) -> Window {
     } else {
         at - BEFORE
     };
-    Window {
+    Excerpt {
         start,
         from,
         at,
@@ -75,7 +75,7 @@ fn window_of(text: &[u8], spot: &Location) -> Window {
 }
 
 /// How many columns a mark takes: those of its element, or 1 where that is longer than a mark may be or is cut.
-fn length_of(text: &[u8], window: &Window, end: usize) -> usize {
+fn length_of(text: &[u8], window: &Excerpt, end: usize) -> usize {
     if end > window.to {
         return 1;
     }
@@ -102,7 +102,7 @@ pub fn part_of(text: &[u8], from: usize, to: usize) -> &[u8] {
     }
 }
 
-fn push_shown(text: &mut String, bytes: &[u8], window: &Window) -> Result<(), AllocError> {
+fn push_shown(text: &mut String, bytes: &[u8], window: &Excerpt) -> Result<(), AllocError> {
     if window.start < window.from {
         text.push_str("..")?;
     }
@@ -124,7 +124,7 @@ pub fn push_plain(text: &mut String, bytes: &[u8]) -> Result<(), AllocError> {
 
 /// As many columns as what is shown before the marked byte takes: a tab is a tab, and any other character as many
 /// blanks as it has columns.
-fn push_under(text: &mut String, bytes: &[u8], window: &Window) -> Result<(), AllocError> {
+fn push_under(text: &mut String, bytes: &[u8], window: &Excerpt) -> Result<(), AllocError> {
     if window.start < window.from {
         text.push_str("  ")?;
     }

@@ -1,6 +1,6 @@
 //! How many findings of each code there are, and how many of them were shown.
 
-use crate::finding::{Finding, Findings, Grade};
+use crate::finding::{Findings, Grade, Problem};
 use std::alloc::{AllocError, Global};
 
 /// The findings of one code: how many there are, and how many of them were shown.
@@ -39,14 +39,14 @@ impl Tally {
         Ok(tally)
     }
 
-    fn add_all(&mut self, findings: &[Finding]) -> Result<(), AllocError> {
+    fn add_all(&mut self, findings: &[Problem]) -> Result<(), AllocError> {
         for finding in findings {
             self.add(finding)?;
         }
         Ok(())
     }
 
-    fn add(&mut self, finding: &Finding) -> Result<(), AllocError> {
+    fn add(&mut self, finding: &Problem) -> Result<(), AllocError> {
         let code = finding.what.code();
         for count in self.counts.iter_mut() {
             if count.code == code {

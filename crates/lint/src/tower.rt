@@ -3,7 +3,7 @@
 ghost use Rattle.std.specs.Prelude.{◌≡◌, IfOk};
 ghost use Rattle.lint.specs.Tower.{HasNotesAlone, IsOneFault, IsOneFile, spot_of_span};
 
-use crate::finding::{Amiss, Finding, Findings, Note, TraceFindings};
+use crate::finding::{Amiss, Findings, Note, Problem, TraceFindings};
 use crate::message::tower_word;
 use crate::nearest::is_near;
 use edn_reader::{Element, Field, MapView, Reader, VectorView};
@@ -14,19 +14,19 @@ use tower_file::{TowerFault, TowerField};
 
 /// Which map of a tower file: the file itself, a level or a register.
 #[derive(Clone, Copy)]
-enum Part {
+enum TowerMap {
     File,
     Level,
     Register,
 }
 
-impl Part {
+impl TowerMap {
     /// The fields that are read of such a map, those first that may be absent.
     fn fields(self) -> &'static [TowerField] {
         match self {
-            Part::File => &[TowerField::Levels],
-            Part::Level => &[TowerField::Name, TowerField::Registers],
-            Part::Register => &[
+            TowerMap::File => &[TowerField::Levels],
+            TowerMap::Level => &[TowerField::Name, TowerField::Registers],
+            TowerMap::Register => &[
                 TowerField::Writers,
                 TowerField::Initial,
                 TowerField::Domain,
@@ -68,7 +68,7 @@ pub fn lint_fault(
     ensures found { IfOk result (λ found. IsOneFault text.now fault span found.traces.items) }
 {
     let mut findings = Vec::new(alloc);
-    findings.push(Finding {
+    findings.push(Problem {
         what: Amiss::Tower(fault),
         spot: spot_of_span(text, span),
     })?;
@@ -88,7 +88,7 @@ pub fn lint_tower(alloc: Global, text: &[u8], found: &Findings) -> Result<Findin
         noted: Vec::new(alloc),
     };
     if let Ok(Some(file)) = reader.next() {
-        walk.note_map(&file, Part::File)?;
+        walk.note_map(&file, TowerMap::File)?;
         walk.note_levels(&file)?;
     }
     let notes = walk.end(text)?;
@@ -97,8 +97,8 @@ pub fn lint_tower(alloc: Global, text: &[u8], found: &Findings) -> Result<Findin
 
 fn one_file(
     alloc: Global,
-    findings: Vec<Finding>,
-    notes: Vec<Finding>,
+    findings: Vec<Problem>,
+    notes: Vec<Problem>,
 ) -> Result<Findings, AllocError>
     ensures found { IfOk result (λ found. IsOneFile findings notes found.traces.items) }
 {
@@ -138,7 +138,7 @@ impl Walk<'_> {
     }
 
     /// The notes, by place.
-    fn end(self, text: &[u8]) -> Result<Vec<Finding>, AllocError> {
+    fn end(self, text: &[u8]) -> Result<Vec<Problem>, AllocError> {
         let Walk {
             alloc,
             mut noted,
@@ -148,7 +148,7 @@ impl Walk<'_> {
         let mut cursor = Cursor::new(text);
         let mut notes = Vec::new(alloc);
         for remark in &noted {
-            notes.push(Finding {
+            notes.push(Problem {
                 what: Amiss::Noted(None, remark.note),
                 spot: Location {
                     start: remark.start,
@@ -165,7 +165,7 @@ impl Walk<'_> {
             return Ok(());
         };
         while let Some(level) = levels.next() {
-            self.note_map(&level, Part::Level)?;
+            self.note_map(&level, TowerMap::Level)?;
             self.note_registers(&level)?;
         }
         Ok(())
@@ -176,7 +176,7 @@ impl Walk<'_> {
             return Ok(());
         };
         while let Some(register) = registers.next() {
-            self.note_map(&register, Part::Register)?;
+            self.note_map(&register, TowerMap::Register)?;
             self.note_register(&register)?;
         }
         Ok(())
@@ -213,7 +213,7 @@ impl Walk<'_> {
     }
 
     /// Notes the fields of a map that are not read.
-    fn note_map(&mut self, element: &Element, part: Part) -> Result<(), AllocError> {
+    fn note_map(&mut self, element: &Element, part: TowerMap) -> Result<(), AllocError> {
         let Some(map) = element.as_map() else {
             return Ok(());
         };

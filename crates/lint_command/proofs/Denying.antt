@@ -44,9 +44,6 @@ one_more R [] (other ∷ codes) word code all named = absurd all
 one_more R (other ∷ words) [] word code all named = absurd all
 one_more R (other ∷ words) (one ∷ codes) word code all named = (all.0, one_more R words codes word code all.1 named)
 
-pub none_yet : (whole : List ℕ) → HasFirst whole whole []
-none_yet whole = ([], tt, refl)
-
 pub goes_on : (whole rest word more code : List ℕ) (old new : List (List ℕ)) → HasFirst whole rest old → position_or_len is_comma rest < length rest → word ≡ take (position_or_len is_comma rest) rest
     → more ≡ after_first is_comma rest → IsNoteNamed word code → new ≡ old ++ code ∷ [] → HasFirst whole more new
 goes_on whole rest word more code old new has within word_is more_is named new_is =

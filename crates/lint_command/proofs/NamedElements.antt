@@ -25,7 +25,7 @@ use Rattle.logs.specs.Broken.{AreElements, BrokeByReading, BrokeByText, broken_b
 use Rattle.logs.specs.Doings.{Doing, lines_at, lines_from, taken_of, what_of}
 use Rattle.feeders.specs.Readers.{AreReadOf, IsReadUpTo, broke_reading}
 use Rattle.logs.specs.Run.{EachNumbered, IsTraced}
-use Rattle.logs.specs.Steps.{steps_behind}
+use Rattle.logs.specs.Steps.{steps_after}
 use Rattle.lint.specs.Found.{NamesElements}
 
 -- a text has elements before its fault, and all of them where it has no fault
@@ -50,7 +50,7 @@ below_all place (doing ∷ doings) =
     (All-weaker (λ (line : Line). line.event < place + 1 + length doings) (λ (line : Line). line.event < bound) (λ line less. omega arith)
     (lines_from (place + 1) doings) (below_all (place + 1) doings))
 
-as_many : (feeder : ℕ) (before items : List (Result Item FormFault)) → length (steps_behind feeder before items) ≡ length items
+as_many : (feeder : ℕ) (before items : List (Result Item FormFault)) → length (steps_after feeder before items) ≡ length items
 as_many feeder before [] = refl
 as_many feeder before (item ∷ items) = ap suc (as_many feeder (before ++ item ∷ []) items)
 

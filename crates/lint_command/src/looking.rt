@@ -24,7 +24,7 @@ use words::{Lint, LintForm};
 
 /// What is printed, and the status.
 #[derive(Drop)]
-struct Told {
+struct Printout {
     text: String,
     status: u8,
 }
@@ -84,7 +84,7 @@ fn tell_alone<'a, A: AllocGlobal + Wait>(
     asked: &Lint<'a>,
     slices: &[&[u8]],
     denied: &[&str],
-) -> Result<Told, CommandFault<'a>>
+) -> Result<Printout, CommandFault<'a>>
     requires most { length slices.now ≤ 256 }
     requires names { length asked.now.traces.items ≡ length slices.now }
     ensures told { IfOk result (λ told. (found : List TraceFindings)
@@ -111,7 +111,7 @@ fn tell_by<'a, A: AllocGlobal + Wait>(
     file: &[u8],
     slices: &[&[u8]],
     denied: &[&str],
-) -> Result<Told, CommandFault<'a>>
+) -> Result<Printout, CommandFault<'a>>
     requires most { length slices.now ≤ 256 }
     requires names { length asked.now.traces.items ≡ length slices.now }
     ensures told { IfOk result (λ told. (names : List Text) × (found : List TraceFindings)
@@ -134,7 +134,7 @@ fn tell_tower<'a, A: AllocGlobal + Wait>(
     file: &[u8],
     slices: &[&[u8]],
     denied: &[&str],
-) -> Result<Told, CommandFault<'a>>
+) -> Result<Printout, CommandFault<'a>>
     requires most { length slices.now ≤ 256 }
     requires names { length asked.now.traces.items ≡ length slices.now }
     ensures told { IfOk result (λ told. (in_traces : List TraceFindings) × (in_file : List TraceFindings)
@@ -164,7 +164,7 @@ fn tell_fault<'a>(
     name: &str,
     file: &[u8],
     denied: &[&str],
-) -> Result<Told, CommandFault<'a>>
+) -> Result<Printout, CommandFault<'a>>
     ensures told { IfOk result (λ told. (found : List TraceFindings) × (located.fault ≢ TowerFault.Memory) × IsOneFault file.now located.fault located.span found
         × IsPrintedAsAsked (asked_lint asked.now) denied.entry.now (name.now ∷ []) found (string_bytes told.text) told.status) }
     ensures quiet { IfErr result (λ fault. fault ≢ CommandFault.Unwritable) }
@@ -188,7 +188,7 @@ fn tell<'a>(
     sources: &[SourceText],
     found: &Findings,
     denied: &[&str],
-) -> Result<Told, CommandFault<'a>>
+) -> Result<Printout, CommandFault<'a>>
     requires each { length sources.now ≡ length found.now.traces.items }
     ensures told { IfOk result (λ told. IsPrintedAsAsked (asked_lint asked.now) denied.entry.now (map (λ source. source.name.now) sources.now) found.now.traces.items (string_bytes told.text) told.status) }
     ensures quiet { IfErr result (λ fault. fault ≢ CommandFault.Unwritable) }
@@ -196,7 +196,7 @@ fn tell<'a>(
     let mut text = String::new(alloc);
     let form = form_of(asked.form, asked.most as usize);
     match push_findings(&mut text, alloc, sources, found, form) {
-        Ok(()) => Ok(Told {
+        Ok(()) => Ok(Printout {
             text,
             status: found.status(denied),
         }),

@@ -47,18 +47,18 @@ by_pairing (Err fault) = Err (Pair fault)
 
 -- what an element after the elements `before` comes to: it is refused by its form, or the pairing answers, which looks
 -- back over the items before it
-abbrev pub step_behind : ℕ → List (Result Item FormFault) → Result Item FormFault → StepResult
-step_behind feeder before (Err fault) = Err (Form fault)
-step_behind feeder before (Ok item) = by_pairing (step_of feeder (accepted (placed before)) (length before) item)
+abbrev pub step_after : ℕ → List (Result Item FormFault) → Result Item FormFault → StepResult
+step_after feeder before (Err fault) = Err (Form fault)
+step_after feeder before (Ok item) = by_pairing (step_of feeder (accepted (placed before)) (length before) item)
 
 -- what each of these elements comes to, in order, after the elements `before`
-abbrev pub steps_behind : ℕ → List (Result Item FormFault) → List (Result Item FormFault) → List StepResult
-steps_behind feeder before [] = []
-steps_behind feeder before (item ∷ items) = step_behind feeder before item ∷ steps_behind feeder (before ++ item ∷ []) items
+abbrev pub steps_after : ℕ → List (Result Item FormFault) → List (Result Item FormFault) → List StepResult
+steps_after feeder before [] = []
+steps_after feeder before (item ∷ items) = step_after feeder before item ∷ steps_after feeder (before ++ item ∷ []) items
 
 -- the steps of a feeder's trace, one for each of its elements, in order; the place of a step is that of its element
 abbrev pub steps_of : ℕ → List (Result Item FormFault) → List StepResult
-steps_of feeder items = steps_behind feeder [] items
+steps_of feeder items = steps_after feeder [] items
 
 -- the edit of what an element comes to, where that is a step on the register of this number; else none
 abbrev pub edit_on : ℕ → StepResult → Option Edit

@@ -46,7 +46,7 @@ impl Pairing {
     pub fn new(alloc: Global, feeder: u32) -> Pairing
         ensures feeder { result.feeder ≡ feeder }
         ensures last { result.last ≡ None }
-        ensures stands { KnowsItems result [] }
+        ensures present { KnowsItems result [] }
     {
         Pairing {
             feeder,
@@ -69,7 +69,7 @@ impl Pairing {
         requires rises { ForSome self.old.last (λ last. last < event) }
         ensures step { result ≢ Err PairFault.Memory → (items : List Placed) → KnowsItems self.old items
             → result ≡ step_of self.old.feeder (accepted items) event item.entry }
-        ensures stands { result ≢ Err PairFault.Memory → (items : List Placed) → KnowsItems self.old items
+        ensures present { result ≢ Err PairFault.Memory → (items : List Placed) → KnowsItems self.old items
             → KnowsItems self.new (items ++ record { place = event; item = item.entry } ∷ []) }
         ensures last { result ≢ Err PairFault.Memory → self.new.last ≡ Some event }
         ensures feeder { self.new.feeder ≡ self.old.feeder }

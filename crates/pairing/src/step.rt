@@ -6,7 +6,7 @@ ghost use Rattle.pairing.specs.Step.{id_of, act_of, value_read, append_of, amend
 
 use crate::fault::PairFault;
 use crate::invocation::{Invocation, is_answer};
-use intervals::{Act, Change, Edit, Lent, Moment, Op, OpId, Parts, RegId, Value};
+use intervals::{Act, Change, Edit, Lent, Moment, Op, OpId, OpParts, RegId, Value};
 use jepsen_form::{Action, Event, Stage};
 
 /// What an item asks for: an edit of a register, or the verdict on one.
@@ -94,7 +94,7 @@ fn append<'t>(feeder: u32, place: u64, event: &Event<'t>, begin: Moment) -> Edit
         act: act(event.action, event.value),
         begin,
         end: None,
-        parts: Parts {
+        parts: OpParts {
             invocation: event.text,
             answer: None,
             amendment: None,

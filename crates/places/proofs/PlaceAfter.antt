@@ -13,9 +13,6 @@ pub one_on : (text : List ℕ) (at byte : ℕ) → at < length text → byte ≡
 one_on text at byte below is =
     ap (place_after_all first_place) (take_more text at 0 below) ∙ after_both first_place (take at text) (get_or text at 0 ∷ []) ∙ ap (place_after (place_of_byte text at)) (sym is)
 
-pub place_at_most : (text : List ℕ) (at : ℕ) → place_of_byte text (min at (length text)) ≡ place_of_byte text at
-place_at_most text at = ap (place_after_all first_place) (take_min at text)
-
 -- a byte leads to the next line at most, and to the next column at most
 pub after_small : (place : LineColumn) (byte : ℕ) → ((place_after place byte).line ≤ place.line + 1) × ((place_after place byte).column ≤ place.column + 1)
 after_small place byte =

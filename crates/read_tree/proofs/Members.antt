@@ -6,14 +6,14 @@ use Rattle.std.proofs.lemmas.List.Elements.{Contains-append_left, Contains-appen
 use Rattle.intervals.specs.declared.ordered_index.Spot.{Spot}
 use Rattle.intervals.specs.OrderedIndex.{same_spot}
 use Rattle.read_tree.specs.declared.item.RowItem.{RowItem}
-use Rattle.read_tree.specs.Items.{AreItemsInOrder, StandsBefore, spot_of_item, stands_before, stands_behind, with_read_item, item_at_spot, in_place_of, renewed}
+use Rattle.read_tree.specs.Items.{AreItemsInOrder, StandsBefore, spot_of_item, present_before, present_following, with_read_item, item_at_spot, in_place_of, renewed}
 use Rattle.read_tree.proofs.Order.{trichotomy, same_true, true_same, before_true, apart}
 
 abbrev below : Spot → List RowItem → List RowItem
-below spot items = filter (stands_before spot) items
+below spot items = filter (present_before spot) items
 
 abbrev above : Spot → List RowItem → List RowItem
-above spot items = filter (stands_behind spot) items
+above spot items = filter (present_following spot) items
 
 pub at_first : (m : RowItem) (items : List RowItem) → Contains (m ∷ items) m
 at_first m items = (0, omega arith, refl)
@@ -31,14 +31,14 @@ none_in m c = omega (arith, c.1)
 -- what holds of each holds of one
 pub each_holds : (P : RowItem → Type 0) (items : List RowItem) (m : RowItem) → AllByRecursion P items → Contains items m → P m
 each_holds P [] m a c = absurd (none_in m c)
-each_holds P (x ∷ items) m a c = elim (first_or_later x items m c) [ inl same ↦ subst P same a.0 | inr behind ↦ each_holds P items m a.1 behind ]
+each_holds P (x ∷ items) m a c = elim (first_or_later x items m c) [ inl same ↦ subst P same a.0 | inr following ↦ each_holds P items m a.1 following ]
 
 module _ (p : RowItem → Bool) where
   kept_at : (x : RowItem) (items : List RowItem) (m : RowItem) (b : Bool) → p x ≡ b → Contains (cond b (x ∷ filter p items) (filter p items)) m
       → (Contains (filter p items) m → Contains items m × (p m ≡ true)) → Contains (x ∷ items) m × (p m ≡ true)
   kept_at x items m true is c rest = elim (first_or_later x (filter p items) m c) [
     | inl same ↦ (subst (Contains (x ∷ items)) same (at_first x items), ap p (sym same) ∙ is)
-    | inr behind ↦ let kept = rest behind in (later x items m kept.0, kept.1)
+    | inr following ↦ let kept = rest following in (later x items m kept.0, kept.1)
   ]
   kept_at x items m false is c rest = let kept = rest c in (later x items m kept.0, kept.1)
 
@@ -53,7 +53,7 @@ module _ (p : RowItem → Bool) where
   kept_in [] m c pass = absurd (none_in m c)
   kept_in (x ∷ items) m c pass = elim (first_or_later x items m c) [
     | inl same ↦ let passes : p x ≡ true = ap p same ∙ pass in rw passes (subst (Contains (x ∷ filter p items)) same (at_first x (filter p items)))
-    | inr behind ↦ stays_kept x items m (kept_in items m behind pass)
+    | inr following ↦ stays_kept x items m (kept_in items m following pass)
   ]
 
   found_at : (x : RowItem) (items : List RowItem) (m : RowItem) (b : Bool) → p x ≡ b → cond b (Some x) (find p items) ≡ Some m
@@ -61,19 +61,19 @@ module _ (p : RowItem → Bool) where
   found_at x items m true is found rest = let same : x ≡ m = cc in (subst (Contains (x ∷ items)) same (at_first x items), ap p (sym same) ∙ is)
   found_at x items m false is found rest = let kept = rest found in (later x items m kept.0, kept.1)
 
-  pub found_stands : (items : List RowItem) (m : RowItem) → find p items ≡ Some m → Contains items m × (p m ≡ true)
-  found_stands [] m found = absurd (cc)
-  found_stands (x ∷ items) m found = found_at x items m (p x) refl found (found_stands items m)
+  pub found_present : (items : List RowItem) (m : RowItem) → find p items ≡ Some m → Contains items m × (p m ≡ true)
+  found_present [] m found = absurd (cc)
+  found_present (x ∷ items) m found = found_at x items m (p x) refl found (found_present items m)
 
   passes_not : (x : RowItem) (items : List RowItem) (b : Bool) → cond b (Some x) (find p items) ≡ None → (b ≡ false) × (find p items ≡ None)
   passes_not x items true none = absurd (cc)
   passes_not x items false none = (refl, none)
 
-  pub none_stands : (items : List RowItem) → find p items ≡ None → (m : RowItem) → Contains items m → p m ≡ false
-  none_stands [] none m c = absurd (none_in m c)
-  none_stands (x ∷ items) none m c = elim (first_or_later x items m c) [
+  pub none_present : (items : List RowItem) → find p items ≡ None → (m : RowItem) → Contains items m → p m ≡ false
+  none_present [] none m c = absurd (none_in m c)
+  none_present (x ∷ items) none m c = elim (first_or_later x items m c) [
     | inl same ↦ ap p (sym same) ∙ (passes_not x items (p x) none).0
-    | inr behind ↦ none_stands items (passes_not x items (p x) none).1 m behind
+    | inr following ↦ none_present items (passes_not x items (p x) none).1 m following
   ]
 
   pub none_found_where : (items : List RowItem) → ((m : RowItem) → Contains items m → p m ≡ false) → find p items ≡ None
@@ -83,8 +83,8 @@ module _ (p : RowItem → Bool) where
   found_here : (x : RowItem) (items : List RowItem) (m : RowItem) → x ≡ m → p m ≡ true → find p (x ∷ items) ≡ Some m
   found_here x items m is h = let passes : p x ≡ true = ap p is ∙ h in rw passes (ap (λ (y : RowItem). Some y) is)
 
-  found_behind : (x : RowItem) (items : List RowItem) (m : RowItem) → p x ≡ false → find p items ≡ Some m → find p (x ∷ items) ≡ Some m
-  found_behind x items m h rest = rw h rest
+  found_after : (x : RowItem) (items : List RowItem) (m : RowItem) → p x ≡ false → find p items ≡ Some m → find p (x ∷ items) ≡ Some m
+  found_after x items m h rest = rw h rest
 
 some_one : (m n : RowItem) → Some m ≡ Some n → m ≡ n
 some_one m n h = cc
@@ -93,27 +93,27 @@ some_one m n h = cc
 module _ (new : RowItem) (items : List RowItem) where
   pub new_or_old : (m : RowItem) → Contains (with_read_item new items) m → (m ≡ new) ⊎ Contains items m
   new_or_old m c = elim (Contains-append_cases (below (spot_of_item new) items) (new ∷ above (spot_of_item new) items) m c) [
-    | inl before ↦ inr (kept_from (stands_before (spot_of_item new)) items m before).0
-    | inr behind ↦ elim (first_or_later new (above (spot_of_item new) items) m behind) [
+    | inl before ↦ inr (kept_from (present_before (spot_of_item new)) items m before).0
+    | inr following ↦ elim (first_or_later new (above (spot_of_item new) items) m following) [
       | inl same ↦ inl (sym same)
-      | inr after ↦ inr (kept_from (stands_behind (spot_of_item new)) items m after).0
+      | inr after ↦ inr (kept_from (present_following (spot_of_item new)) items m after).0
     ]
   ]
 
-  pub new_stands : Contains (with_read_item new items) new
-  new_stands = Contains-append_right (below (spot_of_item new) items) (new ∷ above (spot_of_item new) items) new (at_first new (above (spot_of_item new) items))
+  pub new_present : Contains (with_read_item new items) new
+  new_present = Contains-append_right (below (spot_of_item new) items) (new ∷ above (spot_of_item new) items) new (at_first new (above (spot_of_item new) items))
 
-  pub old_stands : item_at_spot (spot_of_item new) items ≡ None → (m : RowItem) → Contains items m → Contains (with_read_item new items) m
-  old_stands none m c = elim (trichotomy (spot_of_item m) (spot_of_item new)) [
+  pub old_present : item_at_spot (spot_of_item new) items ≡ None → (m : RowItem) → Contains items m → Contains (with_read_item new items) m
+  old_present none m c = elim (trichotomy (spot_of_item m) (spot_of_item new)) [
     | inl same ↦
         let is = true_same (spot_of_item m) (spot_of_item new) same in
-        let other = none_stands (λ y. same_spot (spot_of_item y) (spot_of_item new)) items none m c in
+        let other = none_present (λ y. same_spot (spot_of_item y) (spot_of_item new)) items none m c in
         absurd (cc)
     | inr either ↦ elim either [
       | inl before ↦ Contains-append_left (below (spot_of_item new) items) (new ∷ above (spot_of_item new) items) m
-          (kept_in (stands_before (spot_of_item new)) items m c (before_true (spot_of_item m) (spot_of_item new) before))
-      | inr behind ↦ Contains-append_right (below (spot_of_item new) items) (new ∷ above (spot_of_item new) items) m
-          (later new (above (spot_of_item new) items) m (kept_in (stands_behind (spot_of_item new)) items m c (before_true (spot_of_item new) (spot_of_item m) behind)))
+          (kept_in (present_before (spot_of_item new)) items m c (before_true (spot_of_item m) (spot_of_item new) before))
+      | inr following ↦ Contains-append_right (below (spot_of_item new) items) (new ∷ above (spot_of_item new) items) m
+          (later new (above (spot_of_item new) items) m (kept_in (present_following (spot_of_item new)) items m c (before_true (spot_of_item new) (spot_of_item m) following)))
     ]
   ]
 
@@ -122,11 +122,11 @@ pub found_by_spot : (spot : Spot) (items : List RowItem) (m : RowItem) → AreIt
 found_by_spot spot [] m order c same = absurd (none_in m c)
 found_by_spot spot (x ∷ items) m order c same = elim (first_or_later x items m c) [
   | inl is ↦ found_here (λ y. same_spot (spot_of_item y) spot) x items m is same
-  | inr behind ↦
-      let before : StandsBefore (spot_of_item x) (spot_of_item m) = each_holds (λ y. StandsBefore (spot_of_item x) (spot_of_item y)) items m order.0 behind in
-      found_behind (λ y. same_spot (spot_of_item y) spot) x items m
+  | inr following ↦
+      let before : StandsBefore (spot_of_item x) (spot_of_item m) = each_holds (λ y. StandsBefore (spot_of_item x) (spot_of_item y)) items m order.0 following in
+      found_after (λ y. same_spot (spot_of_item y) spot) x items m
       (apart (spot_of_item x) spot (subst (λ s. StandsBefore (spot_of_item x) s) (same_true (spot_of_item m) spot same) before))
-      (found_by_spot spot items m order.1 behind same)
+      (found_by_spot spot items m order.1 following same)
 ]
 
 -- two items at one spot are one
@@ -153,7 +153,7 @@ module _ (new : RowItem) where
   renewed_from [] x c = absurd (none_in x c)
   renewed_from (y ∷ items) x c = elim (first_or_later (in_place_of new y) (renewed new items) x c) [
     | inl same ↦ by_spot (same_spot (spot_of_item y) (spot_of_item new)) refl same
-    | inr behind ↦ more y items x (renewed_from items x behind)
+    | inr following ↦ more y items x (renewed_from items x following)
   ]
     where
       by_spot : (b : Bool) → same_spot (spot_of_item y) (spot_of_item new) ≡ b → in_place_of new y ≡ x → IsRenewedIn (y ∷ items) x
@@ -164,12 +164,12 @@ module _ (new : RowItem) where
   stays_in [] x c f = absurd (none_in x c)
   stays_in (y ∷ items) x c f = elim (first_or_later y items x c) [
     | inl same ↦ subst (λ z. Contains (in_place_of new y ∷ renewed new items) z) (ap (in_place_of new) same ∙ ap (λ b. cond b new x) f) (at_first (in_place_of new y) (renewed new items))
-    | inr behind ↦ later (in_place_of new y) (renewed new items) x (stays_in items x behind f)
+    | inr following ↦ later (in_place_of new y) (renewed new items) x (stays_in items x following f)
   ]
 
   pub renewed_in : (items : List RowItem) (old : RowItem) → Contains items old → same_spot (spot_of_item old) (spot_of_item new) ≡ true → Contains (renewed new items) new
   renewed_in [] old c t = absurd (none_in old c)
   renewed_in (y ∷ items) old c t = elim (first_or_later y items old c) [
     | inl same ↦ subst (λ z. Contains (in_place_of new y ∷ renewed new items) z) (ap (in_place_of new) same ∙ ap (λ b. cond b new old) t) (at_first (in_place_of new y) (renewed new items))
-    | inr behind ↦ later (in_place_of new y) (renewed new items) new (renewed_in items old behind t)
+    | inr following ↦ later (in_place_of new y) (renewed new items) new (renewed_in items old following t)
   ]

@@ -75,9 +75,6 @@ false_unless false h = refl
 pub apart : (a b : Spot) → StandsBefore a b → same_spot a b ≡ false
 apart a b h = false_unless (same_spot a b) (λ t. irreflexive b (subst (λ s. StandsBefore s b) (same_true a b t) h))
 
-pub apart_back : (a b : Spot) → StandsBefore a b → same_spot b a ≡ false
-apart_back a b h = false_unless (same_spot b a) (λ t. irreflexive b (subst (λ s. StandsBefore s b) (sym (same_true b a t)) h))
-
 -- the order and its test
 pub before_true : (a b : Spot) → StandsBefore a b → is_lt (spot_cmp b a) ≡ true
 before_true a b h = ap is_lt h
@@ -90,17 +87,8 @@ less_true Greater h = absurd (cc)
 pub true_before : (a b : Spot) → is_lt (spot_cmp b a) ≡ true → StandsBefore a b
 true_before a b h = less_true (spot_cmp b a) h
 
-pub before_false : (a b : Spot) → StandsBefore a b → is_lt (spot_cmp a b) ≡ false
-before_false a b h = false_unless (is_lt (spot_cmp a b)) (λ t. asymmetric a b h (true_before b a t))
-
 pub comes_true : (a b : Spot) → spot_before a b ≡ true → StandsBefore a b
 comes_true a b h = true_before a b h
 
 pub comes_none : (a b : Spot) → spot_before a b ≡ false → ¬ StandsBefore a b
 comes_none a b h k = let t = before_true a b k in cc
-
-pub comes_neither : (a b : Spot) → spot_before a b ≡ false → spot_before b a ≡ false → a ≡ b
-comes_neither a b h k = elim (trichotomy a b) [
-  | inl same ↦ same
-  | inr either ↦ elim either [ inl before ↦ absurd (comes_none a b h before) | inr behind ↦ absurd (comes_none b a k behind) ]
-]

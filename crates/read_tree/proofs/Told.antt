@@ -27,51 +27,51 @@ abbrev IsFoundAt : Option RowItem → List RowItem → Spot → Option RowItem �
 IsFoundAt o items spot found = ((found ≡ o) × HasNone items spot) ⊎ ((d : RowItem) × (found ≡ Some d) × IsLastCover items spot d)
 
 module _ (x : RowItem) (items : List RowItem) (spot : Spot) (order : AreItemsInOrder (x ∷ items)) where
-  behind_first : (d : RowItem) → Contains items d → StandsBefore (spot_of_item x) (spot_of_item d)
-  behind_first d c = each_holds (λ y. StandsBefore (spot_of_item x) (spot_of_item y)) items d order.0 c
+  following_first : (d : RowItem) → Contains items d → StandsBefore (spot_of_item x) (spot_of_item d)
+  following_first d c = each_holds (λ y. StandsBefore (spot_of_item x) (spot_of_item y)) items d order.0 c
 
   -- where the first item does not come before the spot, none does
   none_before : ¬ StandsBefore (spot_of_item x) spot → HasNone (x ∷ items) spot
   none_before not_first d c covers before = elim (first_or_later x items d c) [
     | inl same ↦ not_first (subst (λ y. StandsBefore (spot_of_item y) spot) (sym same) before)
-    | inr behind ↦ not_first (transitive (spot_of_item x) (spot_of_item d) spot (behind_first d behind) before)
+    | inr following ↦ not_first (transitive (spot_of_item x) (spot_of_item d) spot (following_first d following) before)
   ]
 
   still_last : (d : RowItem) → IsLastCover items spot d → IsLastCover (x ∷ items) spot d
   still_last d l = record {
-    stands = later x items d l.stands;
+    present = later x items d l.present;
     covers = l.covers;
     before = l.before;
     last = λ e c covers before. elim (first_or_later x items e c) [
-      | inl same ↦ subst (λ y. ¬ StandsBefore (spot_of_item d) (spot_of_item y)) same (asymmetric (spot_of_item x) (spot_of_item d) (behind_first d l.stands))
-      | inr behind ↦ l.last e behind covers before
+      | inl same ↦ subst (λ y. ¬ StandsBefore (spot_of_item d) (spot_of_item y)) same (asymmetric (spot_of_item x) (spot_of_item d) (following_first d l.present))
+      | inr following ↦ l.last e following covers before
     ];
   }
 
   first_is_last : IsTrue x.covers → StandsBefore (spot_of_item x) spot → HasNone items spot → IsLastCover (x ∷ items) spot x
   first_is_last covers before none = record {
-    stands = at_first x items;
+    present = at_first x items;
     covers = covers;
     before = before;
     last = λ e c e_covers e_before. elim (first_or_later x items e c) [
       | inl same ↦ subst (λ y. ¬ StandsBefore (spot_of_item x) (spot_of_item y)) same (irreflexive (spot_of_item x))
-      | inr behind ↦ absurd (none e behind e_covers e_before)
+      | inr following ↦ absurd (none e following e_covers e_before)
     ];
   }
 
   none_with : x.covers ≡ false → HasNone items spot → HasNone (x ∷ items) spot
   none_with is none d c covers before = elim (first_or_later x items d c) [
     | inl same ↦ let d_is : d.covers ≡ false = ap (λ (y : RowItem). y.covers) (sym same) ∙ is in let d_covers : d.covers ≡ true = covers in absurd (cc)
-    | inr behind ↦ none d behind covers before
+    | inr following ↦ none d following covers before
   ]
 
-  found_behind : (o : Option RowItem) (t : Bool) → x.covers ≡ t → StandsBefore (spot_of_item x) spot → (found : Option RowItem) → IsFoundAt (cond t (Some x) o) items spot found → IsFoundAt o (x ∷ items) spot found
-  found_behind o true is before found (inl h) = inr (x, h.0, first_is_last is before h.1)
-  found_behind o false is before found (inl h) = inl (h.0, none_with is h.1)
-  found_behind o t is before found (inr h) = inr (h.0, h.1, still_last h.0 h.2)
+  found_after : (o : Option RowItem) (t : Bool) → x.covers ≡ t → StandsBefore (spot_of_item x) spot → (found : Option RowItem) → IsFoundAt (cond t (Some x) o) items spot found → IsFoundAt o (x ∷ items) spot found
+  found_after o true is before found (inl h) = inr (x, h.0, first_is_last is before h.1)
+  found_after o false is before found (inl h) = inl (h.0, none_with is h.1)
+  found_after o t is before found (inr h) = inr (h.0, h.1, still_last h.0 h.2)
 
   found_by : (o : Option RowItem) (b : Bool) → spot_before (spot_of_item x) spot ≡ b → (rest : Option RowItem) → IsFoundAt (next_cover o x) items spot rest → IsFoundAt o (x ∷ items) spot (cond b rest o)
-  found_by o true is rest h = found_behind o x.covers refl (comes_true (spot_of_item x) spot is) rest h
+  found_by o true is rest h = found_after o x.covers refl (comes_true (spot_of_item x) spot is) rest h
   found_by o false is rest h = inl (refl, none_before (comes_none (spot_of_item x) spot is))
 
 found_at : (o : Option RowItem) (items : List RowItem) (spot : Spot) → AreItemsInOrder items → IsFoundAt o items spot (cover_at o items spot)
@@ -89,13 +89,13 @@ last_cover items spot order = is_cover items spot (cover_at None items spot) (fo
 -- there is one last cover
 one_last : (items : List RowItem) (spot : Spot) → AreItemsInOrder items → (a b : Option RowItem) → IsCoverAt items spot a → IsCoverAt items spot b → a ≡ b
 one_last items spot order None None p q = refl
-one_last items spot order None (Some b) p q = absurd (p b q.stands q.covers q.before)
-one_last items spot order (Some a) None p q = absurd (q a p.stands p.covers p.before)
+one_last items spot order None (Some b) p q = absurd (p b q.present q.covers q.before)
+one_last items spot order (Some a) None p q = absurd (q a p.present p.covers p.before)
 one_last items spot order (Some a) (Some b) p q = ap (λ (y : RowItem). Some y) (elim (trichotomy (spot_of_item a) (spot_of_item b)) [
-  | inl same ↦ one_of_a_spot items a b order p.stands q.stands same
+  | inl same ↦ one_of_a_spot items a b order p.present q.present same
   | inr either ↦ elim either [
-    | inl before ↦ absurd (p.last b q.stands q.covers q.before before)
-    | inr behind ↦ absurd (q.last a p.stands p.covers p.before behind)
+    | inl before ↦ absurd (p.last b q.present q.covers q.before before)
+    | inr following ↦ absurd (q.last a p.present p.covers p.before following)
   ]
 ])
 
@@ -128,8 +128,8 @@ module _ (o : Option RowItem) (x : RowItem) (items : List RowItem) where
   own_first : own_cover o (x ∷ items) x ≡ option_map cover_of o
   own_first = ap (λ t. option_map cover_of (cond t (cover_at (next_cover o x) items (spot_of_item x)) o)) (not_itself (spot_of_item x))
 
-  own_behind : (r : RowItem) → StandsBefore (spot_of_item x) (spot_of_item r) → own_cover o (x ∷ items) r ≡ own_cover (next_cover o x) items r
-  own_behind r h = ap (λ t. option_map cover_of (cond t (cover_at (next_cover o x) items (spot_of_item r)) o)) (comes (spot_of_item x) (spot_of_item r) h)
+  own_following : (r : RowItem) → StandsBefore (spot_of_item x) (spot_of_item r) → own_cover o (x ∷ items) r ≡ own_cover (next_cover o x) items r
+  own_following r h = ap (λ t. option_map cover_of (cond t (cover_at (next_cover o x) items (spot_of_item r)) o)) (comes (spot_of_item x) (spot_of_item r) h)
 
 either_false : (a b : Bool) → (a || b) ≡ false → (a ≡ false) × (b ≡ false)
 either_false true b h = absurd (cc)
@@ -154,15 +154,15 @@ all_right o (x ∷ items) r order h c read = elim (first_or_later x items r c) [
       let first_read : x.covers ≡ false = ap (λ (y : RowItem). y.covers) same ∙ read in
       let right : is_uncovered (own_cover o (x ∷ items) x) x ≡ false = ap (λ d. is_uncovered d x) (own_first o x items) ∙ first_right x.covers (option_map cover_of o) x items first_read h in
       subst (λ y. is_uncovered (own_cover o (x ∷ items) y) y ≡ false) same right
-  | inr behind ↦
-      let before = behind_first x items (spot_of_item r) order r behind in
+  | inr following ↦
+      let before = following_first x items (spot_of_item r) order r following in
       let rest : is_some_uncovered (option_map cover_of (next_cover o x)) items ≡ false = ap (λ d. is_some_uncovered d items) (cover_next x.covers o x) ∙ right_at x.covers (option_map cover_of o) x items h in
-      ap (λ d. is_uncovered d r) (own_behind o x items r before) ∙ all_right (next_cover o x) items r order.1 rest behind read
+      ap (λ d. is_uncovered d r) (own_following o x items r before) ∙ all_right (next_cover o x) items r order.1 rest following read
 ]
 
 -- a read of the list that the last cover before it does not cover
 pub record IsFirst (o : Option RowItem) (items : List RowItem) (r : RowItem) : Type 0 where
-  pub stands : Contains items r
+  pub present : Contains items r
   pub read : r.covers ≡ false
   pub uncovered : is_uncovered (own_cover o items r) r ≡ true
 
@@ -178,19 +178,19 @@ module _ (o : Option RowItem) (x : RowItem) (items : List RowItem) (order : AreI
   first_short_or_not : (b : Bool) → is_uncovered (option_map cover_of o) x ≡ b → is_uncovered (own_cover o (x ∷ items) x) x ≡ b
   first_short_or_not b h = ap (λ d. is_uncovered d x) (own_first o x items) ∙ h
 
-  behind_short_or_not : (r : RowItem) → Contains items r → (b : Bool) → is_uncovered (own_cover (next_cover o x) items r) r ≡ b → is_uncovered (own_cover o (x ∷ items) r) r ≡ b
-  behind_short_or_not r c b h = ap (λ d. is_uncovered d r) (own_behind o x items r (behind_first x items (spot_of_item r) order r c)) ∙ h
+  after_short_or_not : (r : RowItem) → Contains items r → (b : Bool) → is_uncovered (own_cover (next_cover o x) items r) r ≡ b → is_uncovered (own_cover o (x ∷ items) r) r ≡ b
+  after_short_or_not r c b h = ap (λ d. is_uncovered d r) (own_following o x items r (following_first x items (spot_of_item r) order r c)) ∙ h
 
   first_told : (b : Bool) → is_uncovered (own_cover o (x ∷ items) x) x ≡ b → is_uncovered (option_map cover_of o) x ≡ b
   first_told b h = sym (ap (λ d. is_uncovered d x) (own_first o x items)) ∙ h
 
-  behind_told : (r : RowItem) → Contains items r → (b : Bool) → is_uncovered (own_cover o (x ∷ items) r) r ≡ b → is_uncovered (own_cover (next_cover o x) items r) r ≡ b
-  behind_told r c b h = sym (ap (λ d. is_uncovered d r) (own_behind o x items r (behind_first x items (spot_of_item r) order r c))) ∙ h
+  after_told : (r : RowItem) → Contains items r → (b : Bool) → is_uncovered (own_cover o (x ∷ items) r) r ≡ b → is_uncovered (own_cover (next_cover o x) items r) r ≡ b
+  after_told r c b h = sym (ap (λ d. is_uncovered d r) (own_following o x items r (following_first x items (spot_of_item r) order r c))) ∙ h
 
   carry_none : (x.covers ≡ false → is_uncovered (option_map cover_of o) x ≡ false) → IsFirstOf (next_cover o x) items None → IsFirstOf o (x ∷ items) None
   carry_none first rest r c read = elim (first_or_later x items r c) [
     | inl same ↦ subst (λ y. is_uncovered (own_cover o (x ∷ items) y) y ≡ false) same (first_short_or_not false (first (ap (λ (y : RowItem). y.covers) same ∙ read)))
-    | inr behind ↦ behind_short_or_not r behind false (rest r behind read)
+    | inr following ↦ after_short_or_not r following false (rest r following read)
   ]
 
   none_of : (n : ℕ) → (x.covers ≡ false → is_uncovered (option_map cover_of o) x ≡ true → n ≤ x.moment.0) → NoneBefore (next_cover o x) items n → NoneBefore o (x ∷ items) n
@@ -198,18 +198,18 @@ module _ (o : Option RowItem) (x : RowItem) (items : List RowItem) (order : AreI
     | inl same ↦
         let x_short : is_uncovered (own_cover o (x ∷ items) x) x ≡ true = subst (λ y. is_uncovered (own_cover o (x ∷ items) y) y ≡ true) (sym same) uncovered in
         subst (λ y. n ≤ y.moment.0) same (first (ap (λ (y : RowItem). y.covers) same ∙ read) (first_told true x_short))
-    | inr behind ↦ rest r behind read (behind_told r behind true uncovered)
+    | inr following ↦ rest r following read (after_told r following true uncovered)
   ]
 
   carry_some : (r : RowItem) → (x.covers ≡ false → is_uncovered (option_map cover_of o) x ≡ true → r.moment.0 ≤ x.moment.0) → IsFirstOf (next_cover o x) items (Some r) → IsFirstOf o (x ∷ items) (Some r)
   carry_some r first rest = (
-    record { stands = later x items r rest.0.stands; read = rest.0.read; uncovered = behind_short_or_not r rest.0.stands true rest.0.uncovered },
+    record { present = later x items r rest.0.present; read = rest.0.read; uncovered = after_short_or_not r rest.0.present true rest.0.uncovered },
     none_of r.moment.0 first rest.1,
   )
 
   take_first : x.covers ≡ false → is_uncovered (option_map cover_of o) x ≡ true → NoneBefore (next_cover o x) items x.moment.0 → IsFirstOf o (x ∷ items) (Some x)
   take_first read uncovered rest = (
-    record { stands = at_first x items; read = read; uncovered = first_short_or_not true uncovered },
+    record { present = at_first x items; read = read; uncovered = first_short_or_not true uncovered },
     none_of x.moment.0 (λ _ _. omega arith) rest,
   )
 
@@ -221,8 +221,8 @@ module _ (o : Option RowItem) (x : RowItem) (items : List RowItem) (order : AreI
       → IsFirstOf (next_cover o x) items (Some y) → IsFirstOf o (x ∷ items) (cond t (Some y) (Some x))
   by_time true y less read uncovered h = let before = ltb-true y.moment.0 x.moment.0 less in carry_some y (λ _ _. omega (arith, before)) h
   by_time false y less read uncovered h =
-      let behind = ltb-false y.moment.0 x.moment.0 less in
-      take_first read uncovered (λ r c r_read r_short. let rest = h.1 r c r_read r_short in omega (arith, rest, behind))
+      let following = ltb-false y.moment.0 x.moment.0 less in
+      take_first read uncovered (λ r c r_read r_short. let rest = h.1 r c r_read r_short in omega (arith, rest, following))
 
   at_read : (s : Bool) (g : Option RowItem) → is_uncovered (option_map cover_of o) x ≡ s → x.covers ≡ false → IsFirstOf (next_cover o x) items g → IsFirstOf o (x ∷ items) (earlier_read (cond s (Some x) None) g)
   at_read false None is read h = carry_none (λ _. is) h

@@ -34,16 +34,16 @@ AreItemsInOrder [] = Unit {0}
 AreItemsInOrder (x ∷ items) = AllByRecursion (λ later. StandsBefore (spot_of_item x) (spot_of_item later)) items × AreItemsInOrder items
 
 -- the test whether the item comes before the spot
-abbrev pub stands_before : Spot → RowItem → Bool
-stands_before spot x = is_lt (spot_cmp spot (spot_of_item x))
+abbrev pub present_before : Spot → RowItem → Bool
+present_before spot x = is_lt (spot_cmp spot (spot_of_item x))
 
 -- the test whether the item comes after the spot
-abbrev pub stands_behind : Spot → RowItem → Bool
-stands_behind spot x = is_lt (spot_cmp (spot_of_item x) spot)
+abbrev pub present_following : Spot → RowItem → Bool
+present_following spot x = is_lt (spot_cmp (spot_of_item x) spot)
 
 -- the items and one more, in its place by spot
 abbrev pub with_read_item : RowItem → List RowItem → List RowItem
-with_read_item x items = filter (stands_before (spot_of_item x)) items ++ x ∷ filter (stands_behind (spot_of_item x)) items
+with_read_item x items = filter (present_before (spot_of_item x)) items ++ x ∷ filter (present_following (spot_of_item x)) items
 
 -- the item at the spot, or none
 abbrev pub item_at_spot : Spot → List RowItem → Option RowItem
@@ -95,7 +95,7 @@ first_uncovered c (x ∷ items) =
 
 -- c is the last of the covers that come before the spot
 pub record IsLastCover (items : List RowItem) (spot : Spot) (c : RowItem) : Type 0 where
-  pub stands : Contains items c
+  pub present : Contains items c
   pub covers : IsTrue c.covers
   pub before : StandsBefore (spot_of_item c) spot
   pub last : (d : RowItem) → Contains items d → IsTrue d.covers → StandsBefore (spot_of_item d) spot → ¬ StandsBefore (spot_of_item c) (spot_of_item d)

@@ -22,7 +22,7 @@ pub fn a_removed_item_leaves_the_others()
 
 /// A new item takes the place of the one at its spot, if there is one, and the others stay; all are still in
 /// order.
-pub fn a_renewed_item_stands_where_one_stood()
+pub fn a_renewed_item_is_where_one_was()
     ensures items { (new : RowItem) (items : List RowItem) (x : RowItem)
         → Contains (renewed new items) x ↔ ((Contains items x × (same_spot (spot_of_item x) (spot_of_item new) ≡ false)) ⊎ ((x ≡ new) × ((old : RowItem) × Contains items old × (same_spot (spot_of_item old) (spot_of_item new) ≡ true)))) }
     ensures order { (new : RowItem) (items : List RowItem) → AreItemsInOrder items → AreItemsInOrder (renewed new items) }

@@ -8,15 +8,10 @@ ghost use Rattle.read_tree.specs.Summary.{cover_after, IsSummaryOf};
 use crate::summary::{ReadSummary, far_limit};
 use crate::{Cover, RowItem};
 use intervals::is_same_value;
+use summary_tree::Subtree;
 
 /// A tree of items by spot, with their summaries.
 pub type Tree = summary_tree::Tree<RowItem, ReadSummary>;
-
-/// A tree, or a side of a node.
-#[derive(Clone, Copy)]
-pub struct Subtree<'t> {
-    pub tree: &'t Tree,
-}
 
 /// The summary of the tree's items.
 #[tactic(auto, using(crate::proofs::Joins::summary_of_none))]
@@ -39,7 +34,11 @@ pub fn has_uncovered(tree: &Tree, before: Option<Cover>) -> bool
 /// Of `found` and the uncovered reads of the subtree the one that ended first, where `before` is the last cover
 /// before the subtree. It does not go down where no read is uncovered, nor where no item is earlier than `found`.
 #[tactic(auto, using(crate::proofs::Firsts::around_cover, crate::proofs::Firsts::around_read))]
-pub fn earliest(part: Subtree, before: Option<Cover>, found: Option<RowItem>) -> Option<RowItem>
+pub fn earliest(
+    part: Subtree<RowItem, ReadSummary>,
+    before: Option<Cover>,
+    found: Option<RowItem>,
+) -> Option<RowItem>
     ensures { result ≡ earlier_read found (first_uncovered before part.entry.tree.now.items) }
 {
     let tree = part.tree;
@@ -50,7 +49,7 @@ pub fn earliest(part: Subtree, before: Option<Cover>, found: Option<RowItem>) ->
         return found;
     };
     let on_left = earliest(Subtree { tree: &top.left }, before, found);
-    let behind = cover_behind(&top.left, before);
+    let following = cover_following(&top.left, before);
     if top.item.covers {
         return earliest(
             Subtree { tree: &top.right },
@@ -58,8 +57,8 @@ pub fn earliest(part: Subtree, before: Option<Cover>, found: Option<RowItem>) ->
             on_left,
         );
     }
-    let with_top = earlier(on_left, short_one(behind, top.item));
-    earliest(Subtree { tree: &top.right }, behind, with_top)
+    let with_top = earlier(on_left, short_one(following, top.item));
+    earliest(Subtree { tree: &top.right }, following, with_top)
 }
 
 /// Whether no read of the tree is uncovered, or no item of it is earlier than `found`.
@@ -82,7 +81,7 @@ fn is_no_earlier(tree: &Tree, found: Option<RowItem>) -> bool
 }
 
 /// The last cover of the tree, or `before`, the last one before it, where the tree has none.
-fn cover_behind(tree: &Tree, before: Option<Cover>) -> Option<Cover>
+fn cover_following(tree: &Tree, before: Option<Cover>) -> Option<Cover>
     ensures { result ≡ cover_after before tree.now.items }
 {
     summary(tree).last.or(before)

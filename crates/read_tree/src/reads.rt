@@ -4,12 +4,12 @@ ghost use Rattle.std.specs.Prelude.{◌≡◌, ◌+◌, ◌<◌, [], is_some, if
 ghost use Rattle.read_tree.specs.Items.{AreItemsInOrder, spot_of_item, with_read_item, item_at_spot, without_read_item, renewed, is_some_uncovered, first_uncovered};
 
 use crate::RowItem;
-use crate::look::{Subtree, earliest, has_uncovered};
+use crate::look::{earliest, has_uncovered};
 use crate::summary::ReadSummary;
 use intervals::{Memory, Spot};
 use std::alloc::Global;
 use std::marker::Model;
-use summary_tree::SummaryTree;
+use summary_tree::{Subtree, SummaryTree};
 
 /// Items at different spots, and reserved places for more.
 #[derive(Drop)]

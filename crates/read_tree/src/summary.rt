@@ -148,14 +148,14 @@ impl Summarizes<RowItem> for ReadSummary {
     }
 
     #[tactic(auto, unfolding(crate::specs::Summary::join_reads))]
-    fn join(&self, behind: &ReadSummary) -> Self {
-        let prefix = join_prefixes(self.last, self.prefix, behind.prefix);
-        let meets = is_uncovered_after(self.last, behind.prefix);
+    fn join(&self, following: &ReadSummary) -> Self {
+        let prefix = join_prefixes(self.last, self.prefix, following.prefix);
+        let meets = is_uncovered_after(self.last, following.prefix);
         ReadSummary {
             prefix,
-            last: behind.last.or(self.last),
-            uncovered: (self.uncovered | behind.uncovered) | meets,
-            least: self.least.min(behind.least),
+            last: following.last.or(self.last),
+            uncovered: (self.uncovered | following.uncovered) | meets,
+            least: self.least.min(following.least),
         }
     }
 
@@ -194,22 +194,22 @@ fn is_same_last(a: &Option<Cover>, b: &Option<Cover>) -> bool
 
 /// The prefix of two lists: the reads of the second list are before the first cover only where the first list has
 /// none.
-fn join_prefixes(last: Option<Cover>, prefix: Prefix, behind: Prefix) -> Prefix
-    ensures { result ≡ prefix_of last prefix behind }
+fn join_prefixes(last: Option<Cover>, prefix: Prefix, following: Prefix) -> Prefix
+    ensures { result ≡ prefix_of last prefix following }
 {
     match last {
-        None => prefix.merge(behind),
+        None => prefix.merge(following),
         Some(_) => prefix,
     }
 }
 
 /// Whether some read in the second list's prefix is uncovered after the first list's last cover.
-fn is_uncovered_after(last: Option<Cover>, behind: Prefix) -> bool
-    ensures { result ≡ meets_uncovered last behind }
+fn is_uncovered_after(last: Option<Cover>, following: Prefix) -> bool
+    ensures { result ≡ meets_uncovered last following }
 {
     match last {
         None => false,
-        Some(_) => behind.is_uncovered(last),
+        Some(_) => following.is_uncovered(last),
     }
 }
 

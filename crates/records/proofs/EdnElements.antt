@@ -6,11 +6,11 @@ use Rattle.edn_reader.specs.declared.element.ElementKind.TheVariants as kinds
 use Rattle.edn_reader.specs.declared.token.Opener.TheVariants as openers
 use Rattle.edn_reader.specs.Bytes.{class_of}
 use Rattle.edn_reader.specs.Grammar.{ElementModel, IsElement, IsElementAt, bracketed, close, is_odd, none, nothing as no_gap, opening}
-use Rattle.tower_file.proofs.Spelled.{All_stand, Item, Stands, behind, deep, inside, inside_behind, map_of, piece_at, spaced, spaced_behind, spaced_pieces, vector}
+use Rattle.tower_file.proofs.Spelled.{All_stand, Item, Stands, following, deep, inside, inside_after, map_of, piece_at, spaced, spaced_after, spaced_pieces, vector}
 use Rattle.records.specs.Edn.{begins, edn_from, edn_text, ends, symbol_text}
 use Rattle.records.specs.Grammar.{AreFields, AreValues, IsOneValue, IsRecord, alone, between, is_whole_value, is_record_word, listed, more_fields, more_values, nested, no_field, no_value}
 use Rattle.records.specs.Symbol.{Symbol, begin_list, begin_record, end_list, end_record, flag, key, nothing, number, place, text, word}
-use Rattle.records.proofs.EdnStrings.{behind-append, keyword_stands, place_stands, string_stands, word_stands}
+use Rattle.records.proofs.EdnStrings.{following-append, keyword_present, place_present, string_present, word_present}
 
 abbrev blank : Bool → List ℕ
 blank ended = if ended then codes " " else []
@@ -18,7 +18,7 @@ blank ended = if ended then codes " " else []
 -- the symbols are this element in EDN, wherever they are
 record IsPrinted (depth : ℕ) (symbols : List Symbol) : Type 0 where
   item : Item
-  stands : Stands depth item
+  present : Stands depth item
   printed : (ended : Bool) (more : List Symbol) → edn_from ended (symbols ++ more) ≡ blank ended ++ (item.text ++ edn_from true more)
 
 -- what elements come to after a bracket: the first bytes where there is none, and the second after the last
@@ -43,10 +43,10 @@ one_symbol symbol false more begin end = ap (λ (u : Bool). symbol_text symbol +
 
 printed_symbol : (depth : ℕ) (symbol : Symbol) (item : Item) → Stands depth item → item.text ≡ symbol_text symbol → begins symbol ≡ true → ends symbol ≡ true
     → IsPrinted depth (symbol ∷ [])
-printed_symbol depth symbol item stands same begin end =
+printed_symbol depth symbol item present same begin end =
     record {
       item = item;
-      stands = stands;
+      present = present;
       printed = λ ended more. one_symbol symbol ended more begin end ∙ ap (λ (bytes : List ℕ). blank ended ++ (bytes ++ edn_from true more)) (sym same);
     }
 
@@ -56,14 +56,14 @@ alone_is depth end_record whole = absurd cc
 alone_is depth begin_list whole = absurd cc
 alone_is depth end_list whole = absurd cc
 alone_is depth (key name) whole = absurd cc
-alone_is depth (word name) whole = printed_symbol depth (word name) (record { kind = kinds.Atom; text = 58 ∷ name }) (keyword_stands depth name whole) refl refl refl
-alone_is depth (text bytes) whole = printed_symbol depth (text bytes) (record { kind = kinds.Text; text = symbol_text (text bytes) }) (string_stands depth bytes) refl refl refl
+alone_is depth (word name) whole = printed_symbol depth (word name) (record { kind = kinds.Atom; text = 58 ∷ name }) (keyword_present depth name whole) refl refl refl
+alone_is depth (text bytes) whole = printed_symbol depth (text bytes) (record { kind = kinds.Text; text = symbol_text (text bytes) }) (string_present depth bytes) refl refl refl
 alone_is depth (place feeder event) whole =
-    printed_symbol depth (place feeder event) (record { kind = kinds.Text; text = symbol_text (place feeder event) }) (place_stands depth feeder event) refl refl refl
-alone_is depth (number digits) whole = printed_symbol depth (number digits) (record { kind = kinds.Atom; text = digits }) (word_stands depth digits whole) refl refl refl
-alone_is depth (flag true) whole = printed_symbol depth (flag true) (record { kind = kinds.Atom; text = codes "true" }) (word_stands depth (codes "true") refl) refl refl refl
-alone_is depth (flag false) whole = printed_symbol depth (flag false) (record { kind = kinds.Atom; text = codes "false" }) (word_stands depth (codes "false") refl) refl refl refl
-alone_is depth nothing whole = printed_symbol depth nothing (record { kind = kinds.Atom; text = codes "nil" }) (word_stands depth (codes "nil") refl) refl refl refl
+    printed_symbol depth (place feeder event) (record { kind = kinds.Text; text = symbol_text (place feeder event) }) (place_present depth feeder event) refl refl refl
+alone_is depth (number digits) whole = printed_symbol depth (number digits) (record { kind = kinds.Atom; text = digits }) (word_present depth digits whole) refl refl refl
+alone_is depth (flag true) whole = printed_symbol depth (flag true) (record { kind = kinds.Atom; text = codes "true" }) (word_present depth (codes "true") refl) refl refl refl
+alone_is depth (flag false) whole = printed_symbol depth (flag false) (record { kind = kinds.Atom; text = codes "false" }) (word_present depth (codes "false") refl) refl refl refl
+alone_is depth nothing whole = printed_symbol depth nothing (record { kind = kinds.Atom; text = codes "nil" }) (word_present depth (codes "nil") refl) refl refl refl
 
 -- ---- between brackets
 
@@ -76,12 +76,12 @@ listing-append : (items : List Item) (a rest : List ℕ) → listing items a a +
 listing-append [] a rest = refl
 listing-append (item ∷ items) a rest = append_assoc item.text (spaced items a) rest ∙ ap (λ (bytes : List ℕ). item.text ++ bytes) (spaced-append items a rest)
 
-behind-spaced : (at : ℕ) (items : List Item) (a : List ℕ) → behind at (spaced items a) ≡ behind (spaced_behind at items) a
-behind-spaced at [] a = refl
-behind-spaced at (item ∷ items) a = behind-append (suc at) item.text (spaced items a) ∙ behind-spaced (behind (suc at) item.text) items a
+following-spaced : (at : ℕ) (items : List Item) (a : List ℕ) → following at (spaced items a) ≡ following (spaced_after at items) a
+following-spaced at [] a = refl
+following-spaced at (item ∷ items) a = following-append (suc at) item.text (spaced items a) ∙ following-spaced (following (suc at) item.text) items a
 
-behind-inside : (at : ℕ) (item : Item) (items : List Item) (a : List ℕ) → behind at (inside item items a) ≡ behind (inside_behind at item items) a
-behind-inside at item items a = behind-append at item.text (spaced items a) ∙ behind-spaced (behind at item.text) items a
+following-inside : (at : ℕ) (item : Item) (items : List Item) (a : List ℕ) → following at (inside item items a) ≡ following (inside_after at item items) a
+following-inside at item items a = following-append at item.text (spaced items a) ∙ following-spaced (following at item.text) items a
 
 square_opens : class_of 91 ≡ Opens Square
 unfolding class_of
@@ -102,13 +102,13 @@ curly_closes = refl
 abbrev vector_item : List Item → Item
 vector_item items = record { kind = kinds.Vector; text = 91 ∷ listing items (93 ∷ []) (93 ∷ []) }
 
-vector_stands : (depth : ℕ) (items : List Item) → All_stand depth items → Stands (suc depth) (vector_item items)
-vector_stands depth [] stand room at rest e =
+vector_present : (depth : ℕ) (items : List Item) → All_stand depth items → Stands (suc depth) (vector_item items)
+vector_present depth [] stand room at rest e =
     bracketed {opener = openers.Vector} {bracket = Square} (opening {bracket = Square} square_opens) none no_gap (close square_closes) refl refl
-vector_stands depth (item ∷ items) stand room at rest e =
+vector_present depth (item ∷ items) stand room at rest e =
     subst (λ (n : ℕ). IsElementAt (suc (deep depth room)) kinds.Vector (record { kind = kinds.Vector; start = at }) at ((vector_item (item ∷ items)).text ++ rest) n rest)
-    (sym (behind-inside (suc at) item items (93 ∷ [])))
-    (subst (λ (bytes : List ℕ). IsElementAt (suc (deep depth room)) kinds.Vector (record { kind = kinds.Vector; start = at }) at (91 ∷ bytes) (suc (inside_behind (suc at) item items)) rest)
+    (sym (following-inside (suc at) item items (93 ∷ [])))
+    (subst (λ (bytes : List ℕ). IsElementAt (suc (deep depth room)) kinds.Vector (record { kind = kinds.Vector; start = at }) at (91 ∷ bytes) (suc (inside_after (suc at) item items)) rest)
     (sym (listing-append (item ∷ items) (93 ∷ []) rest)) (vector depth item items stand room at rest))
 
 abbrev odd_many : List Item → Bool
@@ -117,20 +117,20 @@ odd_many (item ∷ items) = not (odd_many items)
 
 odd_spaced : (at : ℕ) (items : List Item) → is_odd (spaced_pieces at items) ≡ odd_many items
 odd_spaced at [] = refl
-odd_spaced at (item ∷ items) = ap not (odd_spaced (behind (suc at) item.text) items)
+odd_spaced at (item ∷ items) = ap not (odd_spaced (following (suc at) item.text) items)
 
 abbrev map_item : List Item → Item
 map_item items = record { kind = kinds.Map; text = 123 ∷ listing items (125 ∷ []) (125 ∷ []) }
 
-map_stands : (depth : ℕ) (items : List Item) → All_stand depth items → odd_many items ≡ false → Stands (suc depth) (map_item items)
-map_stands depth [] stand even room at rest e =
+map_present : (depth : ℕ) (items : List Item) → All_stand depth items → odd_many items ≡ false → Stands (suc depth) (map_item items)
+map_present depth [] stand even room at rest e =
     bracketed {opener = openers.Map} {bracket = Curly} (opening {bracket = Curly} curly_opens) none no_gap (close curly_closes) refl refl
-map_stands depth (item ∷ items) stand even room at rest e =
+map_present depth (item ∷ items) stand even room at rest e =
     subst (λ (n : ℕ). IsElementAt (suc (deep depth room)) kinds.Map (record { kind = kinds.Map; start = at }) at ((map_item (item ∷ items)).text ++ rest) n rest)
-    (sym (behind-inside (suc at) item items (125 ∷ [])))
-    (subst (λ (bytes : List ℕ). IsElementAt (suc (deep depth room)) kinds.Map (record { kind = kinds.Map; start = at }) at (123 ∷ bytes) (suc (inside_behind (suc at) item items)) rest)
+    (sym (following-inside (suc at) item items (125 ∷ [])))
+    (subst (λ (bytes : List ℕ). IsElementAt (suc (deep depth room)) kinds.Map (record { kind = kinds.Map; start = at }) at (123 ∷ bytes) (suc (inside_after (suc at) item items)) rest)
     (sym (listing-append (item ∷ items) (125 ∷ []) rest))
-    (map_of depth item items stand room at rest (ap not (odd_spaced (behind (suc at) item.text) items) ∙ even)))
+    (map_of depth item items stand room at rest (ap not (odd_spaced (following (suc at) item.text) items) ∙ even)))
 
 -- a bracket that closes has nothing before it
 closed_list : (ended : Bool) (more : List Symbol) → edn_from ended (end_list ∷ more) ≡ 93 ∷ edn_from true more
@@ -184,7 +184,7 @@ values_on : {depth : ℕ} (value values : List Symbol) → IsPrinted depth value
 values_on value values one others =
     let on = λ (ended : Bool) (more : List Symbol). ap (λ (list : List Symbol). edn_from ended list) (append_assoc value values more) ∙ one.printed ended (values ++ more)
     ∙ ap (λ (bytes : List ℕ). blank ended ++ (one.item.text ++ bytes)) (others.spaced_is more) in
-    record { items = one.item ∷ others.items; stand = (one.stands, others.stand); spaced_is = λ more. on true more; first_is = λ more. on false more }
+    record { items = one.item ∷ others.items; stand = (one.present, others.stand); spaced_is = λ more. on true more; first_is = λ more. on false more }
 
 abbrev key_item : List ℕ → Item
 key_item name = record { kind = kinds.Atom; text = 58 ∷ name }
@@ -209,7 +209,7 @@ fields_on {depth} name value fields is one others =
     record {
       printed = record {
         items = key_item name ∷ after.items;
-        stand = (keyword_stands depth name is, after.stand);
+        stand = (keyword_present depth name is, after.stand);
         spaced_is = λ more. on true more;
         first_is = λ more. on false more;
       };
@@ -221,7 +221,7 @@ mutual
   value_is {depth} (alone symbol whole) = alone_is depth symbol whole
   value_is (listed {depth = depth} {values = values} are) =
       let inner = values_are are in
-      record { item = vector_item inner.items; stands = vector_stands depth inner.items inner.stand; printed = listed_text inner.items values inner.first_is }
+      record { item = vector_item inner.items; present = vector_present depth inner.items inner.stand; printed = listed_text inner.items values inner.first_is }
   value_is (nested is) = record_is is
 
   values_are : {depth : ℕ} {symbols : List Symbol} → AreValues depth symbols → ArePrinted depth symbols
@@ -237,7 +237,7 @@ mutual
       let inner = fields_are are in
       record {
         item = map_item inner.printed.items;
-        stands = map_stands depth inner.printed.items inner.printed.stand inner.even;
+        present = map_present depth inner.printed.items inner.printed.stand inner.even;
         printed = record_text inner.printed.items fields inner.printed.first_is;
       }
 
@@ -260,8 +260,8 @@ one_element depth symbols fits is =
     let printed = record_is is in
     let item = printed.item in
     let room : deep depth (64 - depth) ≡ 64 = omega (arith, deep_is depth (64 - depth)) in
-    let at = subst (λ (n : ℕ). IsElementAt n item.kind (record { kind = item.kind; start = 0 }) 0 (item.text ++ []) (behind 0 item.text) []) room (printed.stands (64 - depth) 0 [] tt) in
-    let whole = subst (λ (bytes : List ℕ). IsElementAt 64 item.kind (record { kind = item.kind; start = 0 }) 0 bytes (behind 0 item.text) []) (append-nil item.text) at in
+    let at = subst (λ (n : ℕ). IsElementAt n item.kind (record { kind = item.kind; start = 0 }) 0 (item.text ++ []) (following 0 item.text) []) room (printed.present (64 - depth) 0 [] tt) in
+    let whole = subst (λ (bytes : List ℕ). IsElementAt 64 item.kind (record { kind = item.kind; start = 0 }) 0 bytes (following 0 item.text) []) (append-nil item.text) at in
     let same : edn_text symbols ≡ item.text =
     ap (λ (list : List Symbol). edn_from false list) (sym (append-nil symbols)) ∙ printed.printed false [] ∙ ap (λ (bytes : List ℕ). item.text ++ bytes) (end_is_nothing true) ∙ append-nil item.text in
-    (piece_at 0 item, (behind 0 item.text, whole), record_kind is, sym same)
+    (piece_at 0 item, (following 0 item.text, whole), record_kind is, sym same)

@@ -10,7 +10,7 @@ use Rattle.edn_reader.specs.declared.bytes.ByteClass.TheVariants.{Plain, Quote}
 use Rattle.edn_reader.specs.declared.element.ElementKind.TheVariants as kinds
 use Rattle.edn_reader.specs.Bytes.{class_of, is_run, is_run_class}
 use Rattle.edn_reader.specs.Grammar.{IsQuoted, closing, leaf, other, taken, text}
-use Rattle.tower_file.proofs.Spelled.{Stands, all_run, atom, behind}
+use Rattle.tower_file.proofs.Spelled.{Stands, all_run, atom, following}
 use Rattle.phrases.specs.Names.{place_text, printed_char}
 use Rattle.records.specs.Edn.{edn_char, string_text}
 use Rattle.records.specs.Grammar.{is_record_word, is_word_byte}
@@ -34,23 +34,23 @@ unfolding class_of
 colon = refl
 
 -- an Atom of a word or a number
-pub word_stands : (depth : ℕ) (bytes : List ℕ) → is_record_word bytes ≡ true → Stands depth (record { kind = kinds.Atom; text = bytes })
-word_stands depth [] is = absurd cc
-word_stands depth (b ∷ bytes) is = let parts = and_parts _ _ is in atom depth b bytes (plain_byte b parts.0) (runs_on bytes parts.1)
+pub word_present : (depth : ℕ) (bytes : List ℕ) → is_record_word bytes ≡ true → Stands depth (record { kind = kinds.Atom; text = bytes })
+word_present depth [] is = absurd cc
+word_present depth (b ∷ bytes) is = let parts = and_parts _ _ is in atom depth b bytes (plain_byte b parts.0) (runs_on bytes parts.1)
 
 -- an Atom of a word after a colon
-pub keyword_stands : (depth : ℕ) (name : List ℕ) → is_record_word name ≡ true → Stands depth (record { kind = kinds.Atom; text = 58 ∷ name })
-keyword_stands depth name is = atom depth 58 name colon (runs_on name (all_of name is))
+pub keyword_present : (depth : ℕ) (name : List ℕ) → is_record_word name ≡ true → Stands depth (record { kind = kinds.Atom; text = 58 ∷ name })
+keyword_present depth name is = atom depth 58 name colon (runs_on name (all_of name is))
 
 -- the inside of a string
 
-pub behind-append : (place : ℕ) (xs ys : List ℕ) → behind place (xs ++ ys) ≡ behind (behind place xs) ys
-behind-append place [] ys = refl
-behind-append place (x ∷ xs) ys = behind-append (suc place) xs ys
+pub following-append : (place : ℕ) (xs ys : List ℕ) → following place (xs ++ ys) ≡ following (following place xs) ys
+following-append place [] ys = refl
+following-append place (x ∷ xs) ys = following-append (suc place) xs ys
 
 -- these bytes may stand in a Text that goes on after them
 abbrev Inside : List ℕ → Type 0
-Inside xs = (place after : ℕ) (tail rest : List ℕ) → IsQuoted (behind place xs) tail after rest → IsQuoted place (xs ++ tail) after rest
+Inside xs = (place after : ℕ) (tail rest : List ℕ) → IsQuoted (following place xs) tail after rest → IsQuoted place (xs ++ tail) after rest
 
 inside_none : Inside []
 inside_none place after tail rest is = is
@@ -61,7 +61,7 @@ inside_cons b xs quote slash more place after tail rest is = other quote slash (
 inside_append : (xs ys : List ℕ) → Inside xs → Inside ys → Inside (xs ++ ys)
 inside_append xs ys one more place after tail rest is =
     subst (λ (bytes : List ℕ). IsQuoted place bytes after rest) (sym (append_assoc xs ys tail))
-    (one place after (ys ++ tail) rest (more (behind place xs) after tail rest (subst (λ (n : ℕ). IsQuoted n tail after rest) (behind-append place xs ys) is)))
+    (one place after (ys ++ tail) rest (more (following place xs) after tail rest (subst (λ (n : ℕ). IsQuoted n tail after rest) (following-append place xs ys) is)))
 
 inside_escaped : (c : ℕ) → Inside (92 ∷ c ∷ [])
 inside_escaped c place after tail rest is = taken refl is
@@ -129,15 +129,15 @@ quote : class_of 34 ≡ Quote
 unfolding class_of
 quote = refl
 
-quoted_stands : (depth : ℕ) (inner : List ℕ) → Inside inner → Stands depth (record { kind = kinds.Text; text = 34 ∷ (inner ++ 34 ∷ []) })
-quoted_stands depth inner inside room place rest e =
-    let ends = closing {place = behind (suc place) inner} {rest = rest} refl in
-    let whole = inside (suc place) (suc (behind (suc place) inner)) (34 ∷ rest) rest ends in
-    let there = subst (λ (bytes : List ℕ). IsQuoted (suc place) bytes (suc (behind (suc place) inner)) rest) (sym (append_assoc inner (34 ∷ []) rest)) whole in
-    leaf (text quote (subst (λ (n : ℕ). IsQuoted (suc place) ((inner ++ 34 ∷ []) ++ rest) n rest) (sym (behind-append (suc place) inner (34 ∷ []))) there))
+quoted_present : (depth : ℕ) (inner : List ℕ) → Inside inner → Stands depth (record { kind = kinds.Text; text = 34 ∷ (inner ++ 34 ∷ []) })
+quoted_present depth inner inside room place rest e =
+    let ends = closing {place = following (suc place) inner} {rest = rest} refl in
+    let whole = inside (suc place) (suc (following (suc place) inner)) (34 ∷ rest) rest ends in
+    let there = subst (λ (bytes : List ℕ). IsQuoted (suc place) bytes (suc (following (suc place) inner)) rest) (sym (append_assoc inner (34 ∷ []) rest)) whole in
+    leaf (text quote (subst (λ (n : ℕ). IsQuoted (suc place) ((inner ++ 34 ∷ []) ++ rest) n rest) (sym (following-append (suc place) inner (34 ∷ []))) there))
 
-pub string_stands : (depth : ℕ) (bytes : List ℕ) → Stands depth (record { kind = kinds.Text; text = string_text bytes })
-string_stands depth bytes = quoted_stands depth (encode_utf8_all (flat_map edn_char (map printed_char (lossy_chars bytes)))) (chars_inside (map printed_char (lossy_chars bytes)))
+pub string_present : (depth : ℕ) (bytes : List ℕ) → Stands depth (record { kind = kinds.Text; text = string_text bytes })
+string_present depth bytes = quoted_present depth (encode_utf8_all (flat_map edn_char (map printed_char (lossy_chars bytes)))) (chars_inside (map printed_char (lossy_chars bytes)))
 
-pub place_stands : (depth feeder event : ℕ) → Stands depth (record { kind = kinds.Text; text = codes "\"" ++ place_text feeder event ++ codes "\"" })
-place_stands depth feeder event = quoted_stands depth (place_text feeder event) (place_inside feeder event)
+pub place_present : (depth feeder event : ℕ) → Stands depth (record { kind = kinds.Text; text = codes "\"" ++ place_text feeder event ++ codes "\"" })
+place_present depth feeder event = quoted_present depth (place_text feeder event) (place_inside feeder event)

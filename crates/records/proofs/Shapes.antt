@@ -42,8 +42,8 @@ use Rattle.report.specs.Finding.{fails_of}
 use Rattle.report.specs.Listing.{level_name}
 use Rattle.phrases.specs.Names.{kind_word, register_name}
 use Rattle.records.specs.declared.allowed.Allowed.{Allowed}
-use Rattle.records.specs.declared.allowed.Source.{Source}
-use Rattle.records.specs.declared.allowed.Source.TheVariants as sources
+use Rattle.records.specs.declared.allowed.ValueSource.{ValueSource}
+use Rattle.records.specs.declared.allowed.ValueSource.TheVariants as sources
 use Rattle.records.specs.declared.ends.Totals.{Totals}
 use Rattle.records.specs.Allowed.{allowed_symbols, source_spot, source_symbol}
 use Rattle.records.specs.Ends.{end_of_records, format_symbols, head_record, order_symbols, tower_symbols, traces_symbols}
@@ -66,7 +66,7 @@ whole_value : (value : Value) → is_whole_value (value_symbol value) ≡ true
 whole_value Nil = refl
 whole_value (Int i) = whole_integer i
 
-whole_source : (source : Source) → is_whole_value (source_symbol source) ≡ true
+whole_source : (source : ValueSource) → is_whole_value (source_symbol source) ≡ true
 whole_source (sources.Write id) = refl
 whole_source sources.Initial = refl
 whole_source sources.Domain = refl

@@ -43,8 +43,8 @@ use Rattle.phrases.specs.Register.{register_line}
 use Rattle.places.specs.declared.location.Location.{Location}
 use Rattle.places.specs.Spots.{PlacesModel}
 use Rattle.records.specs.declared.allowed.Allowed.{Allowed}
-use Rattle.records.specs.declared.allowed.Source.{Source}
-use Rattle.records.specs.declared.allowed.Source.TheVariants as sources
+use Rattle.records.specs.declared.allowed.ValueSource.{ValueSource}
+use Rattle.records.specs.declared.allowed.ValueSource.TheVariants as sources
 use Rattle.records.specs.declared.ends.Totals.{Totals}
 use Rattle.records.specs.Allowed.{allowed_symbols, source_spot, source_symbol}
 use Rattle.records.specs.Ends.{end_of_records, head_record, order_symbols}
@@ -66,7 +66,7 @@ after_value : (name : List ℕ) (value : Value) (symbols : List Symbol) → afte
 after_value name Nil symbols = refl
 after_value name (Int i) symbols = refl
 
-after_source : (name : List ℕ) (source : Source) (symbols : List Symbol) → after name (source_symbol source ∷ symbols) ≡ after name symbols
+after_source : (name : List ℕ) (source : ValueSource) (symbols : List Symbol) → after name (source_symbol source ∷ symbols) ≡ after name symbols
 after_source name (sources.Write id) symbols = refl
 after_source name sources.Initial symbols = refl
 after_source name sources.Domain symbols = refl

@@ -6,8 +6,8 @@ use Rattle.intervals.specs.declared.operation.Op.{Op}
 use Rattle.intervals.specs.declared.operation.Value.{Value}
 use Rattle.intervals.specs.Operation.{value_of}
 use Rattle.records.specs.declared.allowed.Allowed.{Allowed}
-use Rattle.records.specs.declared.allowed.Source.{Source}
-use Rattle.records.specs.declared.allowed.Source.TheVariants as sources
+use Rattle.records.specs.declared.allowed.ValueSource.{ValueSource}
+use Rattle.records.specs.declared.allowed.ValueSource.TheVariants as sources
 use Rattle.places.specs.declared.location.Location.{Location}
 use Rattle.places.specs.Spots.{PlacesModel, located}
 use Rattle.records.specs.Spot.{spot_symbols}
@@ -46,13 +46,13 @@ allowed_by kind initial domain last over =
     else of_last initial last ∷ map of_write over
 
 -- where a value comes from: the id of its write, or the word `initial` or `domain`
-abbrev pub source_symbol : Source → Symbol
+abbrev pub source_symbol : ValueSource → Symbol
 source_symbol (sources.Write id) = place id.feeder id.event
 source_symbol sources.Initial = word (codes "initial")
 source_symbol sources.Domain = word (codes "domain")
 
 -- where the element is that a value comes from: the invocation of its write; none where it comes from no write
-abbrev pub source_spot : PlacesModel → Source → Option Location
+abbrev pub source_spot : PlacesModel → ValueSource → Option Location
 source_spot places (sources.Write id) = located places id.feeder id.event
 source_spot places sources.Initial = None
 source_spot places sources.Domain = None

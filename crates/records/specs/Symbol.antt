@@ -1,8 +1,8 @@
 -- What a record says: its symbols.
 use Rattle.std.specs.Prelude.{ℕ, Bool, List, map}
 use Rattle.std.specs.Fmt.{decimal, signed_decimal}
-use Rattle.records.specs.declared.token.Token.{Token}
-use Rattle.records.specs.declared.token.Token.TheVariants.{BeginRecord, EndRecord, BeginList, EndList, Key, Word, Text, Id, Place, Number, Integer, Flag, Nothing}
+use Rattle.records.specs.declared.token.RecordToken.{RecordToken}
+use Rattle.records.specs.declared.token.RecordToken.TheVariants.{BeginRecord, EndRecord, BeginList, EndList, Key, Word, Text, Id, Place, Number, Integer, Flag, Nothing}
 
 -- a token of a record, with the bytes of its words and texts
 pub data Symbol : Type 0 where
@@ -19,7 +19,7 @@ pub data Symbol : Type 0 where
   nothing : Symbol
 
 -- what a token says; of a number its digits
-abbrev pub symbol_of : Token → Symbol
+abbrev pub symbol_of : RecordToken → Symbol
 symbol_of BeginRecord = begin_record
 symbol_of EndRecord = end_record
 symbol_of BeginList = begin_list
@@ -35,5 +35,5 @@ symbol_of (Flag b) = flag b
 symbol_of Nothing = nothing
 
 -- what some tokens say
-abbrev pub symbols_of : List Token → List Symbol
+abbrev pub symbols_of : List RecordToken → List Symbol
 symbols_of tokens = map symbol_of tokens

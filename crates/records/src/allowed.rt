@@ -6,7 +6,7 @@ ghost use Rattle.records.specs.Allowed.{allowed_by, allowed_symbols, may_return_
 ghost use Rattle.records.specs.Symbol.{symbol_of, symbols_of};
 
 use crate::spot::add_spot;
-use crate::token::Token;
+use crate::token::RecordToken;
 use crate::value::value_token;
 use intervals::{Kind, Op, OpId, Value};
 use places::{Location, Places};
@@ -14,7 +14,7 @@ use std::alloc::{AllocError, Global};
 
 /// Where a value comes from: a write, the register before any write, or its domain.
 #[derive(Clone, Copy)]
-pub enum Source {
+pub enum ValueSource {
     Write(OpId),
     Initial,
     Domain,
@@ -24,7 +24,7 @@ pub enum Source {
 #[derive(Clone, Copy)]
 pub struct Allowed {
     pub value: Value,
-    pub source: Source,
+    pub source: ValueSource,
 }
 
 /// The values that a wrong read might have returned, by the last write that precedes it and the writes that overlap it.
@@ -65,7 +65,7 @@ fn add_domain(allowed: &mut Vec<Allowed>, domain: &[Value]) -> Result<(), AllocE
     for value in domain {
         allowed.push(Allowed {
             value: *value,
-            source: Source::Domain,
+            source: ValueSource::Domain,
         })?;
     }
     Ok(())
@@ -85,7 +85,7 @@ fn of_write(write: &Op) -> Allowed
 {
     Allowed {
         value: write.value(),
-        source: Source::Write(write.id),
+        source: ValueSource::Write(write.id),
     }
 }
 
@@ -94,7 +94,7 @@ fn of_initial(value: Value) -> Allowed
 {
     Allowed {
         value,
-        source: Source::Initial,
+        source: ValueSource::Initial,
     }
 }
 
@@ -109,7 +109,7 @@ fn of_last(initial: Value, last: &Option<Op>) -> Allowed
 
 /// Adds the records of values.
 pub fn add_allowed<'a>(
-    tokens: &mut Vec<Token<'a>>,
+    tokens: &mut Vec<RecordToken<'a>>,
     places: &Places,
     allowed: &[Allowed],
 ) -> Result<(), AllocError>
@@ -122,45 +122,45 @@ pub fn add_allowed<'a>(
 }
 
 fn add_one<'a>(
-    tokens: &mut Vec<Token<'a>>,
+    tokens: &mut Vec<RecordToken<'a>>,
     places: &Places,
     one: &Allowed,
 ) -> Result<(), AllocError>
     ensures { OnOk result (symbols_of tokens.new.items ≡ symbols_of tokens.old.items ++ allowed_symbols places.now one.now) }
 {
-    tokens.push(Token::BeginRecord)?;
+    tokens.push(RecordToken::BeginRecord)?;
     add_value(tokens, one)?;
     add_spot(tokens, spot_of_source(places, one.source))?;
-    tokens.push(Token::EndRecord)?;
+    tokens.push(RecordToken::EndRecord)?;
     Ok(())
 }
 
-fn add_value<'a>(tokens: &mut Vec<Token<'a>>, one: &Allowed) -> Result<(), AllocError>
+fn add_value<'a>(tokens: &mut Vec<RecordToken<'a>>, one: &Allowed) -> Result<(), AllocError>
     ensures { OnOk result (symbols_of tokens.new.items ≡ symbols_of tokens.old.items ++ value_fields one.now) }
 {
     tokens.extend_from_slice(&[
-        Token::Key("value"),
+        RecordToken::Key("value"),
         value_token(one.value),
-        Token::Key("id"),
+        RecordToken::Key("id"),
         source_token(one.source),
     ])
 }
 
-fn spot_of_source(places: &Places, source: Source) -> Option<Location>
+fn spot_of_source(places: &Places, source: ValueSource) -> Option<Location>
     ensures { result ≡ source_spot places.now source }
 {
     match source {
-        Source::Write(id) => places.locate(u64::from(id.feeder), id.event),
-        Source::Initial | Source::Domain => None,
+        ValueSource::Write(id) => places.locate(u64::from(id.feeder), id.event),
+        ValueSource::Initial | ValueSource::Domain => None,
     }
 }
 
-fn source_token<'a>(source: Source) -> Token<'a>
+fn source_token<'a>(source: ValueSource) -> RecordToken<'a>
     ensures { symbol_of result ≡ source_symbol source }
 {
     match source {
-        Source::Write(id) => Token::Id(id),
-        Source::Initial => Token::Word("initial"),
-        Source::Domain => Token::Word("domain"),
+        ValueSource::Write(id) => RecordToken::Id(id),
+        ValueSource::Initial => RecordToken::Word("initial"),
+        ValueSource::Domain => RecordToken::Word("domain"),
     }
 }

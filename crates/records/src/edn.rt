@@ -4,14 +4,14 @@ ghost use Rattle.std.specs.Prelude.{◌≡◌, ◌++◌, OnOk, codes, encode_utf
 ghost use Rattle.records.specs.Symbol.{place, symbol_of, symbols_of};
 ghost use Rattle.records.specs.Edn.{begins, blank_before, edn_from, edn_text, ends, edn_char, string_text, symbol_text};
 
-use crate::token::Token;
+use crate::token::RecordToken;
 use bstr::ByteSlice;
 use phrases::printed_char;
 use std::alloc::AllocError;
 
 /// Adds a record in EDN. Where memory is refused, the text may have got a prefix of it.
 #[tactic(auto, unfolding(crate::specs::Edn::edn_from))]
-pub fn push_edn(text: &mut String, tokens: &[Token]) -> Result<(), AllocError>
+pub fn push_edn(text: &mut String, tokens: &[RecordToken]) -> Result<(), AllocError>
     ensures { OnOk result (string_bytes text.new ≡ string_bytes text.old ++ edn_text (symbols_of tokens.now)) }
 {
     let mut ended = false;
@@ -23,7 +23,7 @@ pub fn push_edn(text: &mut String, tokens: &[Token]) -> Result<(), AllocError>
     Ok(())
 }
 
-fn push_blank(text: &mut String, ended: bool, token: &Token) -> Result<(), AllocError>
+fn push_blank(text: &mut String, ended: bool, token: &RecordToken) -> Result<(), AllocError>
     ensures { OnOk result (string_bytes text.new ≡ string_bytes text.old ++ blank_before ended (symbol_of token.now)) }
 {
     if ended && begins(token) {
@@ -32,36 +32,39 @@ fn push_blank(text: &mut String, ended: bool, token: &Token) -> Result<(), Alloc
     Ok(())
 }
 
-fn begins(token: &Token) -> bool
+fn begins(token: &RecordToken) -> bool
     ensures { result ≡ begins (symbol_of token.now) }
 {
-    !matches!(token, Token::EndRecord | Token::EndList)
+    !matches!(token, RecordToken::EndRecord | RecordToken::EndList)
 }
 
-fn ends(token: &Token) -> bool
+fn ends(token: &RecordToken) -> bool
     ensures { result ≡ ends (symbol_of token.now) }
 {
-    !matches!(token, Token::BeginRecord | Token::BeginList | Token::Key(_))
+    !matches!(
+        token,
+        RecordToken::BeginRecord | RecordToken::BeginList | RecordToken::Key(_)
+    )
 }
 
-fn push_token(text: &mut String, token: &Token) -> Result<(), AllocError>
+fn push_token(text: &mut String, token: &RecordToken) -> Result<(), AllocError>
     ensures { OnOk result (string_bytes text.new ≡ string_bytes text.old ++ symbol_text (symbol_of token.now)) }
 {
     match token {
-        Token::BeginRecord => text.push_str("{"),
-        Token::EndRecord => text.push_str("}"),
-        Token::BeginList => text.push_str("["),
-        Token::EndList => text.push_str("]"),
-        Token::Key(name) => push_key(text, name),
-        Token::Word(word) => push_word(text, word),
-        Token::Text(bytes) => push_text(text, bytes),
-        Token::Id(id) => push_place(text, u64::from(id.feeder), id.event),
-        Token::Place(feeder, event) => push_place(text, *feeder, *event),
-        Token::Number(number) => write!(text, "{number}"),
-        Token::Integer(number) => write!(text, "{number}"),
-        Token::Flag(true) => text.push_str("true"),
-        Token::Flag(false) => text.push_str("false"),
-        Token::Nothing => text.push_str("nil"),
+        RecordToken::BeginRecord => text.push_str("{"),
+        RecordToken::EndRecord => text.push_str("}"),
+        RecordToken::BeginList => text.push_str("["),
+        RecordToken::EndList => text.push_str("]"),
+        RecordToken::Key(name) => push_key(text, name),
+        RecordToken::Word(word) => push_word(text, word),
+        RecordToken::Text(bytes) => push_text(text, bytes),
+        RecordToken::Id(id) => push_place(text, u64::from(id.feeder), id.event),
+        RecordToken::Place(feeder, event) => push_place(text, *feeder, *event),
+        RecordToken::Number(number) => write!(text, "{number}"),
+        RecordToken::Integer(number) => write!(text, "{number}"),
+        RecordToken::Flag(true) => text.push_str("true"),
+        RecordToken::Flag(false) => text.push_str("false"),
+        RecordToken::Nothing => text.push_str("nil"),
     }
 }
 

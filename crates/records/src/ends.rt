@@ -5,7 +5,7 @@ ghost use Rattle.records.specs.Ends.{end_of_records, format_symbols, head_record
 ghost use Rattle.records.specs.Symbol.{end_list, place, symbols_of, text};
 
 use crate::field::{add_list, add_number, add_text, add_type, add_word};
-use crate::token::Token;
+use crate::token::RecordToken;
 use intervals::OpId;
 use std::alloc::AllocError;
 
@@ -24,7 +24,7 @@ pub struct Totals {
 /// Adds the first record.
 #[tactic(auto, unfolding(crate::specs::Ends::head_record))]
 pub fn add_head<'a>(
-    tokens: &mut Vec<Token<'a>>,
+    tokens: &mut Vec<RecordToken<'a>>,
     tower: &'a [u8],
     registers: u64,
     traces: &[&'a str],
@@ -37,13 +37,13 @@ pub fn add_head<'a>(
     add_tower(tokens, tower, registers)?;
     add_traces(tokens, traces)?;
     add_word(tokens, "moment", moments)?;
-    tokens.push(Token::EndRecord)?;
+    tokens.push(RecordToken::EndRecord)?;
     Ok(())
 }
 
 #[tactic(auto, unfolding(crate::specs::Ends::tower_symbols))]
 fn add_tower<'a>(
-    tokens: &mut Vec<Token<'a>>,
+    tokens: &mut Vec<RecordToken<'a>>,
     tower: &'a [u8],
     registers: u64,
 ) -> Result<(), AllocError>
@@ -54,28 +54,28 @@ fn add_tower<'a>(
 }
 
 #[tactic(auto, unfolding(crate::specs::Ends::traces_symbols))]
-fn add_traces<'a>(tokens: &mut Vec<Token<'a>>, traces: &[&'a str]) -> Result<(), AllocError>
+fn add_traces<'a>(tokens: &mut Vec<RecordToken<'a>>, traces: &[&'a str]) -> Result<(), AllocError>
     ensures { OnOk result (symbols_of tokens.new.items ≡ symbols_of tokens.old.items ++ traces_symbols (map (λ name. name.now) traces.now)) }
 {
     add_list(tokens, "traces")?;
     add_names(tokens, traces)?;
-    tokens.push(Token::EndList)?;
+    tokens.push(RecordToken::EndList)?;
     Ok(())
 }
 
 #[tactic(auto, unfolding(crate::specs::Ends::format_symbols))]
-fn add_format<'a>(tokens: &mut Vec<Token<'a>>) -> Result<(), AllocError>
+fn add_format<'a>(tokens: &mut Vec<RecordToken<'a>>) -> Result<(), AllocError>
     ensures { OnOk result (symbols_of tokens.new.items ≡ symbols_of tokens.old.items ++ format_symbols) }
 {
     add_number(tokens, "format", 1)?;
     add_text(tokens, "program", b"regaudit")
 }
 
-fn add_names<'a>(tokens: &mut Vec<Token<'a>>, names: &[&'a str]) -> Result<(), AllocError>
+fn add_names<'a>(tokens: &mut Vec<RecordToken<'a>>, names: &[&'a str]) -> Result<(), AllocError>
     ensures { OnOk result (symbols_of tokens.new.items ≡ symbols_of tokens.old.items ++ map text (map (λ name. name.now) names.now)) }
 {
     for name in names {
-        tokens.push(Token::Text(name.as_bytes()))?;
+        tokens.push(RecordToken::Text(name.as_bytes()))?;
     }
     Ok(())
 }
@@ -83,7 +83,7 @@ fn add_names<'a>(tokens: &mut Vec<Token<'a>>, names: &[&'a str]) -> Result<(), A
 /// Adds the record of an order.
 #[tactic(auto, unfolding(crate::specs::Ends::order_symbols))]
 pub fn add_order<'a>(
-    tokens: &mut Vec<Token<'a>>,
+    tokens: &mut Vec<RecordToken<'a>>,
     name: &'a [u8],
     found: &Option<Vec<OpId>>,
 ) -> Result<(), AllocError>
@@ -91,34 +91,37 @@ pub fn add_order<'a>(
 {
     add_type(tokens, "order")?;
     add_text(tokens, "register", name)?;
-    tokens.push(Token::Key("ids"))?;
+    tokens.push(RecordToken::Key("ids"))?;
     add_found(tokens, found)?;
-    tokens.push(Token::EndRecord)?;
+    tokens.push(RecordToken::EndRecord)?;
     Ok(())
 }
 
-fn add_found<'a>(tokens: &mut Vec<Token<'a>>, found: &Option<Vec<OpId>>) -> Result<(), AllocError>
+fn add_found<'a>(
+    tokens: &mut Vec<RecordToken<'a>>,
+    found: &Option<Vec<OpId>>,
+) -> Result<(), AllocError>
     ensures { OnOk result (symbols_of tokens.new.items ≡ symbols_of tokens.old.items ++ ids_symbols (option_map (λ ids. ids.items) found.now)) }
 {
     match found {
         Some(ids) => {
-            tokens.push(Token::BeginList)?;
+            tokens.push(RecordToken::BeginList)?;
             add_ids(tokens, ids)?;
-            tokens.push(Token::EndList)?;
+            tokens.push(RecordToken::EndList)?;
             Ok(())
         }
         None => {
-            tokens.push(Token::Nothing)?;
+            tokens.push(RecordToken::Nothing)?;
             Ok(())
         }
     }
 }
 
-fn add_ids<'a>(tokens: &mut Vec<Token<'a>>, ids: &[OpId]) -> Result<(), AllocError>
+fn add_ids<'a>(tokens: &mut Vec<RecordToken<'a>>, ids: &[OpId]) -> Result<(), AllocError>
     ensures { OnOk result (symbols_of tokens.new.items ≡ symbols_of tokens.old.items ++ map (λ id. place id.feeder id.event) ids.now) }
 {
     for id in ids {
-        tokens.push(Token::Id(*id))?;
+        tokens.push(RecordToken::Id(*id))?;
     }
     Ok(())
 }
@@ -126,7 +129,7 @@ fn add_ids<'a>(tokens: &mut Vec<Token<'a>>, ids: &[OpId]) -> Result<(), AllocErr
 /// Adds the last record.
 #[tactic(auto, unfolding(crate::specs::Ends::end_of_records))]
 pub fn add_last<'a>(
-    tokens: &mut Vec<Token<'a>>,
+    tokens: &mut Vec<RecordToken<'a>>,
     status: u64,
     totals: &Totals,
 ) -> Result<(), AllocError>
@@ -135,12 +138,12 @@ pub fn add_last<'a>(
     add_type(tokens, "end")?;
     add_verdict_totals(tokens, status, totals)?;
     add_trace_totals(tokens, totals)?;
-    tokens.push(Token::EndRecord)?;
+    tokens.push(RecordToken::EndRecord)?;
     Ok(())
 }
 
 fn add_verdict_totals<'a>(
-    tokens: &mut Vec<Token<'a>>,
+    tokens: &mut Vec<RecordToken<'a>>,
     status: u64,
     totals: &Totals,
 ) -> Result<(), AllocError>
@@ -152,7 +155,10 @@ fn add_verdict_totals<'a>(
     add_number(tokens, "culprits", totals.culprits)
 }
 
-fn add_trace_totals<'a>(tokens: &mut Vec<Token<'a>>, totals: &Totals) -> Result<(), AllocError>
+fn add_trace_totals<'a>(
+    tokens: &mut Vec<RecordToken<'a>>,
+    totals: &Totals,
+) -> Result<(), AllocError>
     ensures { OnOk result (symbols_of tokens.new.items ≡ symbols_of tokens.old.items ++ trace_totals totals.now) }
 {
     add_number(tokens, "operations", totals.operations)?;

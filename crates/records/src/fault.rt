@@ -6,7 +6,7 @@ ghost use Rattle.records.specs.Symbol.{symbols_of};
 
 use crate::allowed::{Allowed, add_allowed};
 use crate::field::{add_end, add_list};
-use crate::token::Token;
+use crate::token::RecordToken;
 use crate::value::{holder_token, value_token};
 use intervals::{Holder, OpId, Value};
 use places::Places;
@@ -15,7 +15,7 @@ use std::alloc::AllocError;
 
 /// Adds the record of a fault, with what a wrong read might have returned.
 pub fn add_fault<'a>(
-    tokens: &mut Vec<Token<'a>>,
+    tokens: &mut Vec<RecordToken<'a>>,
     places: &Places,
     allowed: &[Allowed],
     witness: &Witness,
@@ -27,7 +27,7 @@ pub fn add_fault<'a>(
 }
 
 /// Adds the beginning of a fault's record: its kind, and the ids of the operations that show it.
-pub fn add_fault_head<'a>(tokens: &mut Vec<Token<'a>>, fault: Fault) -> Result<(), AllocError>
+pub fn add_fault_head<'a>(tokens: &mut Vec<RecordToken<'a>>, fault: Fault) -> Result<(), AllocError>
     ensures { OnOk result (symbols_of tokens.new.items ≡ symbols_of tokens.old.items ++ fault_head fault) }
 {
     match fault {
@@ -42,23 +42,23 @@ pub fn add_fault_head<'a>(tokens: &mut Vec<Token<'a>>, fault: Fault) -> Result<(
 }
 
 fn add_read<'a>(
-    tokens: &mut Vec<Token<'a>>,
+    tokens: &mut Vec<RecordToken<'a>>,
     kind: &'static str,
     read: OpId,
 ) -> Result<(), AllocError>
     ensures { OnOk result (symbols_of tokens.new.items ≡ symbols_of tokens.old.items ++ read_symbols kind.now read) }
 {
     tokens.extend_from_slice(&[
-        Token::BeginRecord,
-        Token::Key("kind"),
-        Token::Word(kind),
-        Token::Key("read"),
-        Token::Id(read),
+        RecordToken::BeginRecord,
+        RecordToken::Key("kind"),
+        RecordToken::Word(kind),
+        RecordToken::Key("read"),
+        RecordToken::Id(read),
     ])
 }
 
 fn add_two<'a>(
-    tokens: &mut Vec<Token<'a>>,
+    tokens: &mut Vec<RecordToken<'a>>,
     kind: &'static str,
     name: &'static str,
     one: OpId,
@@ -68,18 +68,18 @@ fn add_two<'a>(
     ensures { OnOk result (symbols_of tokens.new.items ≡ symbols_of tokens.old.items ++ two_symbols kind.now name.now one other_name.now other) }
 {
     tokens.extend_from_slice(&[
-        Token::BeginRecord,
-        Token::Key("kind"),
-        Token::Word(kind),
-        Token::Key(name),
-        Token::Id(one),
-        Token::Key(other_name),
-        Token::Id(other),
+        RecordToken::BeginRecord,
+        RecordToken::Key("kind"),
+        RecordToken::Word(kind),
+        RecordToken::Key(name),
+        RecordToken::Id(one),
+        RecordToken::Key(other_name),
+        RecordToken::Id(other),
     ])
 }
 
 fn add_conflict<'a>(
-    tokens: &mut Vec<Token<'a>>,
+    tokens: &mut Vec<RecordToken<'a>>,
     a: Holder,
     b: Holder,
     c: Holder,
@@ -92,15 +92,19 @@ fn add_conflict<'a>(
     add_pair(tokens, "c", c, "d", d)
 }
 
-fn add_kind<'a>(tokens: &mut Vec<Token<'a>>, kind: &'static str) -> Result<(), AllocError>
+fn add_kind<'a>(tokens: &mut Vec<RecordToken<'a>>, kind: &'static str) -> Result<(), AllocError>
     ensures { OnOk result (symbols_of tokens.new.items ≡ symbols_of tokens.old.items ++ kind_symbols kind.now) }
 {
-    tokens.extend_from_slice(&[Token::BeginRecord, Token::Key("kind"), Token::Word(kind)])
+    tokens.extend_from_slice(&[
+        RecordToken::BeginRecord,
+        RecordToken::Key("kind"),
+        RecordToken::Word(kind),
+    ])
 }
 
 /// Two sides of a conflict.
 fn add_pair<'a>(
-    tokens: &mut Vec<Token<'a>>,
+    tokens: &mut Vec<RecordToken<'a>>,
     name: &'static str,
     one: Holder,
     other_name: &'static str,
@@ -109,16 +113,16 @@ fn add_pair<'a>(
     ensures { OnOk result (symbols_of tokens.new.items ≡ symbols_of tokens.old.items ++ pair_symbols name.now one other_name.now other) }
 {
     tokens.extend_from_slice(&[
-        Token::Key(name),
+        RecordToken::Key(name),
         holder_token(one),
-        Token::Key(other_name),
+        RecordToken::Key(other_name),
         holder_token(other),
     ])
 }
 
 /// Adds the end of a fault's record.
 fn add_rest<'a>(
-    tokens: &mut Vec<Token<'a>>,
+    tokens: &mut Vec<RecordToken<'a>>,
     places: &Places,
     allowed: &[Allowed],
     witness: &Witness,
@@ -128,12 +132,12 @@ fn add_rest<'a>(
     match witness {
         Witness::Wrong(_) => add_allowed_list(tokens, places, allowed),
         Witness::Crossing { b, d, .. } => add_values(tokens, d, b),
-        _ => tokens.extend_from_slice(&[Token::EndRecord]),
+        _ => tokens.extend_from_slice(&[RecordToken::EndRecord]),
     }
 }
 
 fn add_allowed_list<'a>(
-    tokens: &mut Vec<Token<'a>>,
+    tokens: &mut Vec<RecordToken<'a>>,
     places: &Places,
     allowed: &[Allowed],
 ) -> Result<(), AllocError>
@@ -146,18 +150,18 @@ fn add_allowed_list<'a>(
 
 /// The values of a conflict, with which its record ends.
 fn add_values<'a>(
-    tokens: &mut Vec<Token<'a>>,
+    tokens: &mut Vec<RecordToken<'a>>,
     first: &Side,
     second: &Side,
 ) -> Result<(), AllocError>
     ensures { OnOk result (symbols_of tokens.new.items ≡ symbols_of tokens.old.items ++ values_symbols first.now second.now) }
 {
     tokens.extend_from_slice(&[
-        Token::Key("first"),
+        RecordToken::Key("first"),
         value_token(side_value(first)),
-        Token::Key("second"),
+        RecordToken::Key("second"),
         value_token(side_value(second)),
-        Token::EndRecord,
+        RecordToken::EndRecord,
     ])
 }
 

@@ -5,13 +5,17 @@ ghost use Rattle.json.specs.Print.{print};
 ghost use Rattle.records.specs.Symbol.{place, symbol_of, symbols_of};
 ghost use Rattle.records.specs.Json.{json_text, json_token};
 
-use crate::token::Token;
+use crate::token::RecordToken;
 use json::Writer;
 use phrases::push_printed;
 use std::alloc::{AllocError, Global};
 
 /// Adds a record in JSON.
-pub fn with_json(alloc: Global, text: Vec<u8>, tokens: &[Token]) -> Result<Vec<u8>, AllocError>
+pub fn with_json(
+    alloc: Global,
+    text: Vec<u8>,
+    tokens: &[RecordToken],
+) -> Result<Vec<u8>, AllocError>
     ensures { IfOk result (λ more. more.items ≡ text.items ++ json_text (symbols_of tokens.now)) }
 {
     let mut writer = Writer::new(text);
@@ -21,28 +25,28 @@ pub fn with_json(alloc: Global, text: Vec<u8>, tokens: &[Token]) -> Result<Vec<u
     Ok(writer.into_inner())
 }
 
-fn write_token(alloc: Global, writer: &mut Writer, token: &Token) -> Result<(), AllocError>
+fn write_token(alloc: Global, writer: &mut Writer, token: &RecordToken) -> Result<(), AllocError>
     ensures before { writer.new.before ≡ writer.old.before }
     ensures tokens { OnOk result (writer.new.tokens ≡ writer.old.tokens ++ json_token (symbol_of token.now) ∷ []) }
 {
     match token {
-        Token::BeginRecord => writer.begin_object(),
-        Token::EndRecord => writer.end_object(),
-        Token::BeginList => writer.begin_array(),
-        Token::EndList => writer.end_array(),
-        Token::Key(name) => writer.key(name),
-        Token::Word(word) => writer.string(word),
-        Token::Text(bytes) => {
+        RecordToken::BeginRecord => writer.begin_object(),
+        RecordToken::EndRecord => writer.end_object(),
+        RecordToken::BeginList => writer.begin_array(),
+        RecordToken::EndList => writer.end_array(),
+        RecordToken::Key(name) => writer.key(name),
+        RecordToken::Word(word) => writer.string(word),
+        RecordToken::Text(bytes) => {
             let mut printed = String::new(alloc);
             push_printed(&mut printed, bytes)?;
             writer.string(&printed)
         }
-        Token::Id(id) => write_place(alloc, writer, u64::from(id.feeder), id.event),
-        Token::Place(feeder, event) => write_place(alloc, writer, *feeder, *event),
-        Token::Number(number) => writer.u64(*number),
-        Token::Integer(number) => writer.i64(*number),
-        Token::Flag(flag) => writer.boolean(*flag),
-        Token::Nothing => writer.null(),
+        RecordToken::Id(id) => write_place(alloc, writer, u64::from(id.feeder), id.event),
+        RecordToken::Place(feeder, event) => write_place(alloc, writer, *feeder, *event),
+        RecordToken::Number(number) => writer.u64(*number),
+        RecordToken::Integer(number) => writer.i64(*number),
+        RecordToken::Flag(flag) => writer.boolean(*flag),
+        RecordToken::Nothing => writer.null(),
     }
 }
 

@@ -6,7 +6,7 @@ ghost use Rattle.records.specs.Symbol.{symbols_of};
 
 use crate::edn::push_edn;
 use crate::in_json::with_json;
-use crate::token::Token;
+use crate::token::RecordToken;
 use std::alloc::{AllocError, Global};
 
 /// How records are written: each on a line of its own.
@@ -21,7 +21,7 @@ pub fn push_record(
     alloc: Global,
     notation: Notation,
     text: &mut Vec<u8>,
-    tokens: &[Token],
+    tokens: &[RecordToken],
 ) -> Result<(), AllocError>
     ensures { OnOk result (text.new.items ≡ text.old.items ++ record_line notation (symbols_of tokens.now)) }
 {
@@ -34,7 +34,7 @@ fn with_line(
     alloc: Global,
     notation: Notation,
     text: Vec<u8>,
-    tokens: &[Token],
+    tokens: &[RecordToken],
 ) -> Result<Vec<u8>, AllocError>
     ensures { IfOk result (λ more. more.items ≡ text.items ++ record_line notation (symbols_of tokens.now)) }
 {
@@ -47,7 +47,7 @@ fn with_record(
     alloc: Global,
     notation: Notation,
     text: Vec<u8>,
-    tokens: &[Token],
+    tokens: &[RecordToken],
 ) -> Result<Vec<u8>, AllocError>
     ensures { IfOk result (λ more. more.items ≡ text.items ++ record_text notation (symbols_of tokens.now)) }
 {
@@ -57,7 +57,7 @@ fn with_record(
     }
 }
 
-fn with_edn(alloc: Global, mut text: Vec<u8>, tokens: &[Token]) -> Result<Vec<u8>, AllocError>
+fn with_edn(alloc: Global, mut text: Vec<u8>, tokens: &[RecordToken]) -> Result<Vec<u8>, AllocError>
     ensures { IfOk result (λ more. more.items ≡ text.items ++ record_text Notation.Edn (symbols_of tokens.now)) }
 {
     let mut line = String::new(alloc);

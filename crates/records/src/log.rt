@@ -11,7 +11,7 @@ use crate::field::{
     add_end, add_flag, add_list, add_number, add_place, add_text, add_type, add_word,
 };
 use crate::spot::{add_holder_place, add_spot, known_token};
-use crate::token::Token;
+use crate::token::RecordToken;
 use crate::value::holder_token;
 use intervals::{Holder, Refusal};
 use logs::{Broken, Code};
@@ -21,7 +21,7 @@ use std::alloc::AllocError;
 /// Adds the record of a refusal.
 #[tactic(auto, unfolding(crate::specs::Log::refused_symbols))]
 pub fn add_refused<'a>(
-    tokens: &mut Vec<Token<'a>>,
+    tokens: &mut Vec<RecordToken<'a>>,
     feeder: u64,
     event: u64,
     code: &Code,
@@ -35,7 +35,7 @@ pub fn add_refused<'a>(
 /// Adds the record of a refusal, with where the element is, and what it collides with.
 #[tactic(auto, unfolding(crate::specs::Log::placed_refusal))]
 pub fn add_placed_refusal<'a>(
-    tokens: &mut Vec<Token<'a>>,
+    tokens: &mut Vec<RecordToken<'a>>,
     places: &Places,
     feeder: u64,
     event: u64,
@@ -44,14 +44,14 @@ pub fn add_placed_refusal<'a>(
     ensures { OnOk result (symbols_of tokens.new.items ≡ symbols_of tokens.old.items ++ placed_refusal places.now feeder event code.now) }
 {
     add_refusal(tokens, feeder, event, code)?;
-    tokens.push(Token::EndList)?;
+    tokens.push(RecordToken::EndList)?;
     add_refusal_end(tokens, places, feeder, event, code)
 }
 
 /// The end of the record of a refusal: where the element is, and what it collides with.
 #[tactic(auto, unfolding(crate::specs::Log::refusal_end))]
 fn add_refusal_end<'a>(
-    tokens: &mut Vec<Token<'a>>,
+    tokens: &mut Vec<RecordToken<'a>>,
     places: &Places,
     feeder: u64,
     event: u64,
@@ -68,7 +68,7 @@ fn add_refusal_end<'a>(
 /// The beginning of the record of a refusal, up to what the element collides with.
 #[tactic(auto, unfolding(crate::specs::Log::refusal_symbols))]
 fn add_refusal<'a>(
-    tokens: &mut Vec<Token<'a>>,
+    tokens: &mut Vec<RecordToken<'a>>,
     feeder: u64,
     event: u64,
     code: &Code,
@@ -83,7 +83,7 @@ fn add_refusal<'a>(
 }
 
 /// What a refused element collides with.
-fn add_met<'a>(tokens: &mut Vec<Token<'a>>, code: &Code) -> Result<(), AllocError>
+fn add_met<'a>(tokens: &mut Vec<RecordToken<'a>>, code: &Code) -> Result<(), AllocError>
     ensures { OnOk result (symbols_of tokens.new.items ≡ symbols_of tokens.old.items ++ map holder_symbol (met_by code.now)) }
 {
     let (one, other) = met_by(code);
@@ -91,7 +91,7 @@ fn add_met<'a>(tokens: &mut Vec<Token<'a>>, code: &Code) -> Result<(), AllocErro
     add_one(tokens, other)
 }
 
-fn add_one<'a>(tokens: &mut Vec<Token<'a>>, holder: Option<Holder>) -> Result<(), AllocError>
+fn add_one<'a>(tokens: &mut Vec<RecordToken<'a>>, holder: Option<Holder>) -> Result<(), AllocError>
     ensures { OnOk result (symbols_of tokens.new.items ≡ symbols_of tokens.old.items ++ map holder_symbol (option_to_list holder)) }
 {
     if let Some(holder) = holder {
@@ -102,7 +102,7 @@ fn add_one<'a>(tokens: &mut Vec<Token<'a>>, holder: Option<Holder>) -> Result<()
 
 /// Where what a refused element collides with is.
 fn add_met_places<'a>(
-    tokens: &mut Vec<Token<'a>>,
+    tokens: &mut Vec<RecordToken<'a>>,
     places: &Places,
     code: &Code,
 ) -> Result<(), AllocError>
@@ -114,7 +114,7 @@ fn add_met_places<'a>(
 }
 
 fn add_one_place<'a>(
-    tokens: &mut Vec<Token<'a>>,
+    tokens: &mut Vec<RecordToken<'a>>,
     places: &Places,
     holder: Option<Holder>,
 ) -> Result<(), AllocError>
@@ -152,7 +152,7 @@ fn met_by_edit(refusal: &Refusal) -> (Option<Holder>, Option<Holder>)
 /// Adds the record of an answer to a question, with where the question is.
 #[tactic(auto, unfolding(crate::specs::Log::answer_symbols))]
 pub fn add_answer<'a>(
-    tokens: &mut Vec<Token<'a>>,
+    tokens: &mut Vec<RecordToken<'a>>,
     places: &Places,
     feeder: u64,
     event: u64,
@@ -166,12 +166,12 @@ pub fn add_answer<'a>(
     add_place(tokens, feeder, event)?;
     add_answer_fields(tokens, name, holds, operations)?;
     add_spot(tokens, places.locate(feeder, event))?;
-    tokens.push(Token::EndRecord)?;
+    tokens.push(RecordToken::EndRecord)?;
     Ok(())
 }
 
 fn add_answer_fields<'a>(
-    tokens: &mut Vec<Token<'a>>,
+    tokens: &mut Vec<RecordToken<'a>>,
     name: &'a [u8],
     holds: bool,
     operations: u64,
@@ -186,21 +186,21 @@ fn add_answer_fields<'a>(
 /// Adds the record of a break.
 #[tactic(auto, unfolding(crate::specs::Log::broken_symbols))]
 pub fn add_broken<'a>(
-    tokens: &mut Vec<Token<'a>>,
+    tokens: &mut Vec<RecordToken<'a>>,
     feeder: u64,
     broken: Broken,
 ) -> Result<(), AllocError>
     ensures { OnOk result (symbols_of tokens.new.items ≡ symbols_of tokens.old.items ++ broken_symbols feeder broken) }
 {
     add_break(tokens, feeder, broken)?;
-    tokens.push(Token::EndRecord)?;
+    tokens.push(RecordToken::EndRecord)?;
     Ok(())
 }
 
 /// Adds the record of a break, with the line of its byte.
 #[tactic(auto, unfolding(crate::specs::Log::placed_break))]
 pub fn add_placed_break<'a>(
-    tokens: &mut Vec<Token<'a>>,
+    tokens: &mut Vec<RecordToken<'a>>,
     places: &Places,
     feeder: u64,
     broken: Broken,
@@ -209,16 +209,20 @@ pub fn add_placed_break<'a>(
 {
     add_break(tokens, feeder, broken)?;
     tokens.extend_from_slice(&[
-        Token::Key("line"),
+        RecordToken::Key("line"),
         known_token(places.line_of(feeder, broken.place)),
     ])?;
-    tokens.push(Token::EndRecord)?;
+    tokens.push(RecordToken::EndRecord)?;
     Ok(())
 }
 
 /// The beginning of the record of a break.
 #[tactic(auto, unfolding(crate::specs::Log::break_symbols))]
-fn add_break<'a>(tokens: &mut Vec<Token<'a>>, feeder: u64, broken: Broken) -> Result<(), AllocError>
+fn add_break<'a>(
+    tokens: &mut Vec<RecordToken<'a>>,
+    feeder: u64,
+    broken: Broken,
+) -> Result<(), AllocError>
     ensures { OnOk result (symbols_of tokens.new.items ≡ symbols_of tokens.old.items ++ break_symbols feeder broken) }
 {
     add_type(tokens, "broken")?;

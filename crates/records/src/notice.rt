@@ -10,7 +10,7 @@ use crate::fault::add_fault_head;
 use crate::field::{add_flag, add_number, add_place, add_text, add_type, add_word};
 use crate::line::{Notation, push_record};
 use crate::log::{add_broken, add_refused};
-use crate::token::Token;
+use crate::token::RecordToken;
 use logs::Notice;
 use phrases::{kind_word, name_of};
 use register_book::Fault;
@@ -33,7 +33,7 @@ pub fn push_notice(
 }
 
 fn add_notice<'a>(
-    tokens: &mut Vec<Token<'a>>,
+    tokens: &mut Vec<RecordToken<'a>>,
     tower: &'a Tower,
     notice: &Notice,
 ) -> Result<(), AllocError>
@@ -61,7 +61,7 @@ fn add_notice<'a>(
 /// Adds the record of a change of a verdict.
 #[tactic(auto, unfolding(crate::specs::Notice::change_symbols))]
 fn add_change<'a>(
-    tokens: &mut Vec<Token<'a>>,
+    tokens: &mut Vec<RecordToken<'a>>,
     name: &'a [u8],
     feeder: u64,
     event: u64,
@@ -73,14 +73,14 @@ fn add_change<'a>(
     add_place(tokens, feeder, event)?;
     add_changed(tokens, name, change)?;
     add_fault_field(tokens, change.fault)?;
-    tokens.push(Token::EndRecord)?;
+    tokens.push(RecordToken::EndRecord)?;
     Ok(())
 }
 
 /// A register as a change of its verdict left it.
 #[tactic(auto, unfolding(crate::specs::Notice::changed_symbols))]
 fn add_changed<'a>(
-    tokens: &mut Vec<Token<'a>>,
+    tokens: &mut Vec<RecordToken<'a>>,
     name: &'a [u8],
     change: &VerdictChange,
 ) -> Result<(), AllocError>
@@ -93,15 +93,18 @@ fn add_changed<'a>(
 }
 
 #[tactic(auto, unfolding(crate::specs::Notice::fault_field))]
-fn add_fault_field<'a>(tokens: &mut Vec<Token<'a>>, fault: Option<Fault>) -> Result<(), AllocError>
+fn add_fault_field<'a>(
+    tokens: &mut Vec<RecordToken<'a>>,
+    fault: Option<Fault>,
+) -> Result<(), AllocError>
     ensures { OnOk result (symbols_of tokens.new.items ≡ symbols_of tokens.old.items ++ fault_field fault) }
 {
-    tokens.push(Token::Key("fault"))?;
+    tokens.push(RecordToken::Key("fault"))?;
     add_optional_fault(tokens, fault)
 }
 
 fn add_optional_fault<'a>(
-    tokens: &mut Vec<Token<'a>>,
+    tokens: &mut Vec<RecordToken<'a>>,
     fault: Option<Fault>,
 ) -> Result<(), AllocError>
     ensures { OnOk result (symbols_of tokens.new.items ≡ symbols_of tokens.old.items ++ optional_fault_symbols fault) }
@@ -109,28 +112,32 @@ fn add_optional_fault<'a>(
     match fault {
         Some(fault) => add_fault_ids(tokens, fault),
         None => {
-            tokens.push(Token::Nothing)?;
+            tokens.push(RecordToken::Nothing)?;
             Ok(())
         }
     }
 }
 
-fn add_fault_ids<'a>(tokens: &mut Vec<Token<'a>>, fault: Fault) -> Result<(), AllocError>
+fn add_fault_ids<'a>(tokens: &mut Vec<RecordToken<'a>>, fault: Fault) -> Result<(), AllocError>
     ensures { OnOk result (symbols_of tokens.new.items ≡ symbols_of tokens.old.items ++ fault_ids_symbols fault) }
 {
     add_fault_head(tokens, fault)?;
-    tokens.push(Token::EndRecord)?;
+    tokens.push(RecordToken::EndRecord)?;
     Ok(())
 }
 
 /// Adds the record of the end of a trace.
 #[tactic(auto, unfolding(crate::specs::Notice::ended_symbols))]
-fn add_ended<'a>(tokens: &mut Vec<Token<'a>>, feeder: u64, elements: u64) -> Result<(), AllocError>
+fn add_ended<'a>(
+    tokens: &mut Vec<RecordToken<'a>>,
+    feeder: u64,
+    elements: u64,
+) -> Result<(), AllocError>
     ensures { OnOk result (symbols_of tokens.new.items ≡ symbols_of tokens.old.items ++ ended_symbols feeder elements) }
 {
     add_type(tokens, "ended")?;
     add_number(tokens, "trace", feeder)?;
     add_number(tokens, "elements", elements)?;
-    tokens.push(Token::EndRecord)?;
+    tokens.push(RecordToken::EndRecord)?;
     Ok(())
 }

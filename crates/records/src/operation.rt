@@ -7,7 +7,7 @@ ghost use Rattle.records.specs.Symbol.{symbols_of};
 ghost use Rattle.records.specs.Operation.{act_symbols, act_word, head_symbols, moment_symbols, op_spot, op_symbols, part_symbols, process_symbols, text_symbols};
 
 use crate::spot::add_spot;
-use crate::token::Token;
+use crate::token::RecordToken;
 use crate::value::{end_token, integer_token, part_token, value_token};
 use intervals::{Op, OpId};
 use places::{Location, Places};
@@ -16,7 +16,7 @@ use std::alloc::AllocError;
 
 /// Adds the record of each operation in the slots.
 pub fn add_ops<'a>(
-    tokens: &mut Vec<Token<'a>>,
+    tokens: &mut Vec<RecordToken<'a>>,
     places: &Places,
     slots: &[Option<InRole<'a>>],
 ) -> Result<(), AllocError>
@@ -31,7 +31,11 @@ pub fn add_ops<'a>(
 }
 
 #[tactic(auto, unfolding(crate::specs::Operation::op_symbols))]
-fn add_op<'a>(tokens: &mut Vec<Token<'a>>, places: &Places, op: &Op<'a>) -> Result<(), AllocError>
+fn add_op<'a>(
+    tokens: &mut Vec<RecordToken<'a>>,
+    places: &Places,
+    op: &Op<'a>,
+) -> Result<(), AllocError>
     ensures { OnOk result (symbols_of tokens.new.items ≡ symbols_of tokens.old.items ++ op_symbols places.now op.now) }
 {
     add_head(tokens, op.id)?;
@@ -40,7 +44,7 @@ fn add_op<'a>(tokens: &mut Vec<Token<'a>>, places: &Places, op: &Op<'a>) -> Resu
     add_moments(tokens, op)?;
     add_texts(tokens, op)?;
     add_spot(tokens, spot_of(places, op))?;
-    tokens.push(Token::EndRecord)?;
+    tokens.push(RecordToken::EndRecord)?;
     Ok(())
 }
 
@@ -51,56 +55,63 @@ fn spot_of(places: &Places, op: &Op) -> Option<Location>
     places.locate(u64::from(op.id.feeder), op.id.event)
 }
 
-fn add_head<'a>(tokens: &mut Vec<Token<'a>>, id: OpId) -> Result<(), AllocError>
+fn add_head<'a>(tokens: &mut Vec<RecordToken<'a>>, id: OpId) -> Result<(), AllocError>
     ensures { OnOk result (symbols_of tokens.new.items ≡ symbols_of tokens.old.items ++ head_symbols id) }
 {
-    tokens.extend_from_slice(&[Token::BeginRecord, Token::Key("id"), Token::Id(id)])
+    tokens.extend_from_slice(&[
+        RecordToken::BeginRecord,
+        RecordToken::Key("id"),
+        RecordToken::Id(id),
+    ])
 }
 
-fn add_process<'a>(tokens: &mut Vec<Token<'a>>, process: i64) -> Result<(), AllocError>
+fn add_process<'a>(tokens: &mut Vec<RecordToken<'a>>, process: i64) -> Result<(), AllocError>
     ensures { OnOk result (symbols_of tokens.new.items ≡ symbols_of tokens.old.items ++ process_symbols process) }
 {
-    tokens.extend_from_slice(&[Token::Key("process"), integer_token(process)])
+    tokens.extend_from_slice(&[RecordToken::Key("process"), integer_token(process)])
 }
 
-fn add_act<'a>(tokens: &mut Vec<Token<'a>>, op: &Op) -> Result<(), AllocError>
+fn add_act<'a>(tokens: &mut Vec<RecordToken<'a>>, op: &Op) -> Result<(), AllocError>
     ensures { OnOk result (symbols_of tokens.new.items ≡ symbols_of tokens.old.items ++ act_symbols op.now) }
 {
     tokens.extend_from_slice(&[
-        Token::Key("f"),
-        Token::Word(act_word(op)),
-        Token::Key("value"),
+        RecordToken::Key("f"),
+        RecordToken::Word(act_word(op)),
+        RecordToken::Key("value"),
         value_token(op.value()),
     ])
 }
 
-fn add_moments<'a>(tokens: &mut Vec<Token<'a>>, op: &Op) -> Result<(), AllocError>
+fn add_moments<'a>(tokens: &mut Vec<RecordToken<'a>>, op: &Op) -> Result<(), AllocError>
     ensures { OnOk result (symbols_of tokens.new.items ≡ symbols_of tokens.old.items ++ moment_symbols op.now) }
 {
     tokens.extend_from_slice(&[
-        Token::Key("begin"),
-        Token::Number(op.begin.0),
-        Token::Key("end"),
+        RecordToken::Key("begin"),
+        RecordToken::Number(op.begin.0),
+        RecordToken::Key("end"),
         end_token(op.end),
     ])
 }
 
-fn add_texts<'a>(tokens: &mut Vec<Token<'a>>, op: &Op<'a>) -> Result<(), AllocError>
+fn add_texts<'a>(tokens: &mut Vec<RecordToken<'a>>, op: &Op<'a>) -> Result<(), AllocError>
     ensures { OnOk result (symbols_of tokens.new.items ≡ symbols_of tokens.old.items ++ text_symbols op.now) }
 {
-    tokens.extend_from_slice(&[Token::Key("invocation"), Token::Text(op.parts.invocation)])?;
+    tokens.extend_from_slice(&[
+        RecordToken::Key("invocation"),
+        RecordToken::Text(op.parts.invocation),
+    ])?;
     add_part(tokens, "answer", op.parts.answer)?;
     add_part(tokens, "amendment", op.parts.amendment)
 }
 
 fn add_part<'a>(
-    tokens: &mut Vec<Token<'a>>,
+    tokens: &mut Vec<RecordToken<'a>>,
     name: &'static str,
     part: Option<&'a [u8]>,
 ) -> Result<(), AllocError>
     ensures { OnOk result (symbols_of tokens.new.items ≡ symbols_of tokens.old.items ++ part_symbols name.now part.entry) }
 {
-    tokens.extend_from_slice(&[Token::Key(name), part_token(part)])
+    tokens.extend_from_slice(&[RecordToken::Key(name), part_token(part)])
 }
 
 fn act_word(op: &Op) -> &'static str

@@ -8,7 +8,7 @@ use crate::allowed::Allowed;
 use crate::fault::add_fault;
 use crate::field::{add_end, add_flag, add_list, add_number, add_text, add_type, add_word};
 use crate::operation::add_ops;
-use crate::token::Token;
+use crate::token::RecordToken;
 use phrases::kind_word;
 use places::Places;
 use register_book::Witness;
@@ -19,7 +19,7 @@ use std::alloc::AllocError;
 /// blame, and what a wrong read might have returned.
 #[tactic(auto, unfolding(crate::specs::Register::register_symbols))]
 pub fn add_register<'a>(
-    tokens: &mut Vec<Token<'a>>,
+    tokens: &mut Vec<RecordToken<'a>>,
     places: &Places,
     number: u64,
     level: &'a [u8],
@@ -38,7 +38,7 @@ pub fn add_register<'a>(
 }
 
 fn add_names<'a>(
-    tokens: &mut Vec<Token<'a>>,
+    tokens: &mut Vec<RecordToken<'a>>,
     number: u64,
     level: &'a [u8],
     name: &'a [u8],
@@ -50,7 +50,7 @@ fn add_names<'a>(
     add_text(tokens, "name", name)
 }
 
-fn add_verdict<'a>(tokens: &mut Vec<Token<'a>>, finding: &Finding) -> Result<(), AllocError>
+fn add_verdict<'a>(tokens: &mut Vec<RecordToken<'a>>, finding: &Finding) -> Result<(), AllocError>
     ensures { OnOk result (symbols_of tokens.new.items ≡ symbols_of tokens.old.items ++ verdict_symbols finding.now) }
 {
     add_word(tokens, "kind", kind_word(finding.kind))?;
@@ -58,7 +58,7 @@ fn add_verdict<'a>(tokens: &mut Vec<Token<'a>>, finding: &Finding) -> Result<(),
 }
 
 fn add_blame<'a>(
-    tokens: &mut Vec<Token<'a>>,
+    tokens: &mut Vec<RecordToken<'a>>,
     operations: u64,
     culprit: bool,
 ) -> Result<(), AllocError>
@@ -69,7 +69,7 @@ fn add_blame<'a>(
 }
 
 fn add_found<'a>(
-    tokens: &mut Vec<Token<'a>>,
+    tokens: &mut Vec<RecordToken<'a>>,
     places: &Places,
     allowed: &[Allowed],
     witness: &Option<Witness<'a>>,
@@ -79,26 +79,26 @@ fn add_found<'a>(
     match witness {
         Some(witness) => add_witness(tokens, places, allowed, witness),
         None => tokens.extend_from_slice(&[
-            Token::Key("fault"),
-            Token::Nothing,
-            Token::Key("witness"),
-            Token::BeginList,
-            Token::EndList,
-            Token::EndRecord,
+            RecordToken::Key("fault"),
+            RecordToken::Nothing,
+            RecordToken::Key("witness"),
+            RecordToken::BeginList,
+            RecordToken::EndList,
+            RecordToken::EndRecord,
         ]),
     }
 }
 
 #[tactic(auto, unfolding(crate::specs::Register::witness_symbols))]
 fn add_witness<'a>(
-    tokens: &mut Vec<Token<'a>>,
+    tokens: &mut Vec<RecordToken<'a>>,
     places: &Places,
     allowed: &[Allowed],
     witness: &Witness<'a>,
 ) -> Result<(), AllocError>
     ensures { OnOk result (symbols_of tokens.new.items ≡ symbols_of tokens.old.items ++ witness_symbols places.now allowed.now witness.now) }
 {
-    tokens.push(Token::Key("fault"))?;
+    tokens.push(RecordToken::Key("fault"))?;
     add_fault(tokens, places, allowed, witness)?;
     add_list(tokens, "witness")?;
     add_ops(tokens, places, &witness.roles())?;

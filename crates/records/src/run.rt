@@ -20,7 +20,7 @@ use crate::explained::explain_all;
 use crate::line::{Notation, push_record};
 use crate::log::{add_answer, add_placed_break, add_placed_refusal};
 use crate::register::add_register;
-use crate::token::Token;
+use crate::token::RecordToken;
 use intervals::{OpId, RegId};
 use logs::{Broken, Line, Log, Run, What};
 use phrases::name_of;
@@ -221,7 +221,7 @@ struct RecordWriter<'p, 't> {
 
 impl RecordWriter<'_, '_> {
     /// Adds a record, on a line of its own.
-    fn push(self, text: &mut Vec<u8>, tokens: &[Token]) -> Result<(), AllocError>
+    fn push(self, text: &mut Vec<u8>, tokens: &[RecordToken]) -> Result<(), AllocError>
         ensures { OnOk result (text.new.items ≡ text.old.items ++ record_line self.entry.notation (symbols_of tokens.now)) }
     {
         push_record(self.alloc, self.notation, text, tokens)

@@ -4,7 +4,7 @@ use intervals::OpId;
 
 /// A token of a record: a bracket, the key of a field, or a value.
 #[derive(Clone, Copy)]
-pub enum Token<'a> {
+pub enum RecordToken<'a> {
     /// A record begins.
     BeginRecord,
     /// A record ends.

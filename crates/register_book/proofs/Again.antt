@@ -53,9 +53,9 @@ module _ (claim : ClaimModel) (slots : List (Option Op)) where
 
   pub steps_on : (k : ℕ) (ops : List Op) (before after : BookModel) (op : Op) → HeldAgain k before → ops_in_slots slots ≡ ops → after ≡ record before { ops = before.ops ++ op ∷ []; steps = after.steps }
       → before.steps ≤ length before.ops * most_steps ops → after.steps ≤ before.steps + most_steps before.ops → after.steps ≤ length after.ops * most_steps ops
-  steps_on k ops before after op is stands e so_far rises =
+  steps_on k ops before after op is present e so_far rises =
       let front : before.ops ≡ front_of slots k = ap (λ (c : RegisterState). c.ops) is in
-      let parted : ops ≡ before.ops ++ rest_of slots k = sym stands ∙ all_of slots k ∙ ap (λ (first : List Op). first ++ rest_of slots k) (sym front) in
+      let parted : ops ≡ before.ops ++ rest_of slots k = sym present ∙ all_of slots k ∙ ap (λ (first : List Op). first ++ rest_of slots k) (sym front) in
       let few : most_steps before.ops ≤ most_steps ops = subst (λ (all : List Op). most_steps before.ops ≤ most_steps all) (sym parted) (fewer_steps before.ops (rest_of slots k)) in
       let long : length after.ops ≡ length before.ops + 1 = ap (λ (held : BookModel). length held.ops) e ∙ length-append before.ops (op ∷ []) in
       subst (λ (n : ℕ). after.steps ≤ n * most_steps ops) (sym long) (one_more (length before.ops) (most_steps ops) before.steps after.steps (most_steps before.ops) so_far rises few)

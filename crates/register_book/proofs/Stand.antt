@@ -19,11 +19,11 @@ module _ (P : Op → Type 0) (claim : ClaimModel) (ops : List Op) (each : (op : 
   one : (op : Op) → Contains ops op → All P (op ∷ [])
   one op h = All-cons P op [] (each op h) (All-nil P)
 
-  judged_stands : (op : Op) → Contains (judged ops) op → Contains ops op
-  judged_stands op h = All-contains (Contains ops) (judged ops) op (All-filter _ (Contains ops) ops (All-contains_itself ops)) h
+  judged_present : (op : Op) → Contains (judged ops) op → Contains ops op
+  judged_present op h = All-contains (Contains ops) (judged ops) op (All-filter _ (Contains ops) ops (All-contains_itself ops)) h
 
   at_side : (side : Side) → StandsJudged ops (side_op side) → All P (ops_at side)
-  at_side (ItsOp op) h = one op (judged_stands op h)
+  at_side (ItsOp op) h = one op (judged_present op h)
   at_side Initial h = All-nil P
 
   -- what holds of each operation that stands holds of each operation of a witness
@@ -39,8 +39,8 @@ module _ (P : Op → Type 0) (claim : ClaimModel) (ops : List Op) (each : (op : 
   of_witness wrong unwritten split early crossing (Early r w) h = let s = early r w h.3 in All-cons P r (w ∷ []) (each r s.0) (one w s.1)
   of_witness wrong unwritten split early crossing (Crossing a (ItsOp b) c (ItsOp d)) h =
       let x = crossing (side_op a) b (side_op c) d h.4 in
-      let front = All-append P (ops_at a) (b ∷ []) (at_side a x.a_stands) (one b (judged_stands b x.b_stands)) in
+      let front = All-append P (ops_at a) (b ∷ []) (at_side a x.a_present) (one b (judged_present b x.b_present)) in
       All-append P (ops_at a ++ (b ∷ []) ++ ops_at c) (d ∷ [])
-      (All-append P (ops_at a ++ (b ∷ [])) (ops_at c) front (at_side c x.c_stands)) (one d (judged_stands d x.d_stands))
+      (All-append P (ops_at a ++ (b ∷ [])) (ops_at c) front (at_side c x.c_present)) (one d (judged_present d x.d_present))
   of_witness wrong unwritten split early crossing (Crossing a Initial c d) h = absurd h
   of_witness wrong unwritten split early crossing (Crossing a (ItsOp b) c Initial) h = absurd h

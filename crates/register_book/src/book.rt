@@ -15,7 +15,7 @@ ghost use Rattle.register_book.specs.declared.fault.Witness.{Witness as AWitness
 ghost use Rattle.register_book.specs.Fault.{IsWitness, ids_of, operations_of};
 
 use crate::judge::Judge;
-use crate::laws::a_witness_stands;
+use crate::laws::a_witness_is_present;
 use crate::refused::refusal_of;
 use crate::{Fault, Reply, Witness};
 use intervals::{Claim, Edit, Kind, Memory, Op, OpId, Target};
@@ -106,13 +106,13 @@ impl<'t> RegisterBook<'t> {
         if let Some(refusal) = refusal_of(self.alloc, &self.judge, &edit, &target)? {
             return Ok(Reply::Refused(refusal));
         }
-        self.carry_out(&edit, &target)?;
+        self.apply_accepted(&edit, &target)?;
         Ok(Reply::Accepted {
             holds: self.holds(),
         })
     }
 
-    fn carry_out(&mut self, edit: &Edit<'t>, target: &Target<'t>) -> Result<(), Memory>
+    fn apply_accepted(&mut self, edit: &Edit<'t>, target: &Target<'t>) -> Result<(), Memory>
         requires accepted { reply_to self.old.claim self.old.ops edit.now ≡ None }
         requires target { IsTargetOf self.old.ops edit.now target.now }
         ensures ok { OnOk result (claimed_of self.new ≡ carried_out (claimed_of self.old) edit.now) }
@@ -180,7 +180,7 @@ impl<'t> RegisterBook<'t> {
         ensures none { IsNone result ↔ Holds self.now.claim self.now.ops }
         ensures stand { IfSome result (λ witness. All (λ op. op_of self.now.ops op.id ≡ Some op) (operations_of witness)) }
     {
-        a_witness_stands();
+        a_witness_is_present();
         self.judge.witness()
     }
 

@@ -24,7 +24,7 @@ use zones::laws::{
 };
 
 /// The operations of a witness stand, each found by its id.
-pub fn a_witness_stands()
+pub fn a_witness_is_present()
     ensures { (claim : ClaimModel) (ops : List Op) (witness : Witness) → HasDistinctIds ops → IsWitness claim ops witness
         → All (λ op. op_of ops op.id ≡ Some op) (operations_of witness) }
 {

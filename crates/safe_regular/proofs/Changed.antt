@@ -12,11 +12,11 @@ use Rattle.intervals.specs.Operation.{same_id}
 use Rattle.intervals.specs.Edit.{op_of, found_by, has_id, amended, changed, edited, new_op, edit_id}
 use Rattle.intervals.specs.Refusal.{first_refusal, moments_refusal}
 use Rattle.intervals.specs.Standing.{HasDistinctIds}
-use Rattle.intervals.proofs.Ids.{same_id-refl, found_alike, found_by_id, not_taken, none_of, found_stands, found_again}
+use Rattle.intervals.proofs.Ids.{same_id-refl, found_alike, found_by_id, not_taken, none_of, found_present, found_again}
 use Rattle.safe_regular.specs.Apart.{AreSequential}
 use Rattle.safe_regular.specs.Change.{IsAmong}
 use Rattle.safe_regular.specs.Writes.{IsAddedOf}
-use Rattle.safe_regular.proofs.Lists.{kept, kept_stands}
+use Rattle.safe_regular.proofs.Lists.{kept, kept_present}
 
 abbrev is_other : Option OpId → Op → Bool
 is_other id op = not (has_id id op)
@@ -25,8 +25,8 @@ is_other id op = not (has_id id op)
 abbrev pub others_of : List Op → Option OpId → List Op
 others_of ops id = filter (is_other id) ops
 
-pub other_stands : (ops : List Op) (id : Option OpId) (x : Op) → Contains (others_of ops id) x → Contains ops x
-other_stands ops id x h = kept_stands (is_other id) ops x h
+pub other_present : (ops : List Op) (id : Option OpId) (x : Op) → Contains (others_of ops id) x → Contains ops x
+other_present ops id x h = kept_present (is_other id) ops x h
 
 kept_passes : (test : Op → Bool) (ops : List Op) (x : Op) → Contains (filter test ops) x → test x ≡ true
 kept_passes test [] x h = absurd (omega (arith, h.1))
@@ -77,35 +77,35 @@ from_changed change (Some a) x e = (a, refl, (cc))
 
 -- after the edit: the others are still there
 pub other_after : (ops : List Op) (edit : Edit) (x : Op) → Contains (others_of ops (edit_id edit)) x → Contains (edited ops edit) x
-other_after ops (Append op) x h = Contains-append_left ops (op ∷ []) x (other_stands ops (Some op.id) x h)
+other_after ops (Append op) x h = Contains-append_left ops (op ∷ []) x (other_present ops (Some op.id) x h)
 other_after ops (Amend id change) x h =
-    subst (λ (o : Op). Contains (map (amended id change) ops) o) (amended_other id change x (other_apart ops (Some id) x h)) (in_image (amended id change) ops x (other_stands ops (Some id) x h))
+    subst (λ (o : Op). Contains (map (amended id change) ops) o) (amended_other id change x (other_apart ops (Some id) x h)) (in_image (amended id change) ops x (other_present ops (Some id) x h))
 other_after ops (Withdraw id) x h = h
-other_after ops (Claim kind) x h = other_stands ops None x h
+other_after ops (Claim kind) x h = other_present ops None x h
 
-pub new_stands : (ops : List Op) (edit : Edit) (x : Op) → new_op ops edit ≡ Some x → Contains (edited ops edit) x × (has_id (edit_id edit) x ≡ true)
-new_stands ops (Append op) x e = let same : op ≡ x = cc in subst (λ (o : Op). Contains (ops ++ op ∷ []) o × (same_id o.id op.id ≡ true)) same (Contains-push ops op, same_id-refl op.id)
-new_stands ops (Amend id change) x e =
+pub new_present : (ops : List Op) (edit : Edit) (x : Op) → new_op ops edit ≡ Some x → Contains (edited ops edit) x × (has_id (edit_id edit) x ≡ true)
+new_present ops (Append op) x e = let same : op ≡ x = cc in subst (λ (o : Op). Contains (ops ++ op ∷ []) o × (same_id o.id op.id ≡ true)) same (Contains-push ops op, same_id-refl op.id)
+new_present ops (Amend id change) x e =
     let a = from_changed change (op_of ops id) x e in
-    let old = found_stands ops (Some id) a.0 a.1 in
+    let old = found_present ops (Some id) a.0 a.1 in
     subst (λ (o : Op). Contains (map (amended id change) ops) o × (same_id o.id id ≡ true)) a.2
     (subst (λ (o : Op). Contains (map (amended id change) ops) o) (amended_one id change a.0 old.1) (in_image (amended id change) ops a.0 old.0), old.1)
-new_stands ops (Withdraw id) x e = absurd (cc)
-new_stands ops (Claim kind) x e = absurd (cc)
+new_present ops (Withdraw id) x e = absurd (cc)
+new_present ops (Claim kind) x e = absurd (cc)
 
 pub after_cases : (ops : List Op) (edit : Edit) → HasDistinctIds ops → first_refusal ops edit ≡ None → (x : Op) → Contains (edited ops edit) x → IsAmong (others_of ops (edit_id edit)) (new_op ops edit) x
 after_cases ops (Append op) distinct accepted x h = by_cases (Contains-push_cases ops op x h)
   where
     by_cases : Contains ops x ⊎ (op ≡ x) → IsAmong (others_of ops (Some op.id)) (Some op) x
-    by_cases (inl stands) = inl (in_others ops (Some op.id) x stands
-        (All-contains (λ o. same_id o.id op.id ≡ false) ops x (none_of ops op.id (not_taken (op_of ops op.id) (moments_refusal ops op) accepted)) stands))
+    by_cases (inl present) = inl (in_others ops (Some op.id) x present
+        (All-contains (λ o. same_id o.id op.id ≡ false) ops x (none_of ops op.id (not_taken (op_of ops op.id) (moments_refusal ops op) accepted)) present))
     by_cases (inr e) = inr (ap Some e)
 after_cases ops (Amend id change) distinct accepted x h = let a = from_image (amended id change) ops x h in by_cases a.0 a.1 a.2 (cases_Bool (same_id a.0.id id))
   where
     by_cases : (a : Op) → Contains ops a → amended id change a ≡ x → (same_id a.id id ≡ true) ⊎ (same_id a.id id ≡ false) → IsAmong (others_of ops (Some id)) (new_op ops (Amend id change)) x
-    by_cases a stands e (inl t) =
-        inr (ap (option_map (λ op. changed op change)) (sym (found_alike ops a.id id t) ∙ found_by_id ops a distinct stands) ∙ ap Some (sym (amended_one id change a t) ∙ e))
-    by_cases a stands e (inr f) = inl (subst (λ (o : Op). Contains (others_of ops (Some id)) o) (sym (amended_other id change a f) ∙ e) (in_others ops (Some id) a stands f))
+    by_cases a present e (inl t) =
+        inr (ap (option_map (λ op. changed op change)) (sym (found_alike ops a.id id t) ∙ found_by_id ops a distinct present) ∙ ap Some (sym (amended_one id change a t) ∙ e))
+    by_cases a present e (inr f) = inl (subst (λ (o : Op). Contains (others_of ops (Some id)) o) (sym (amended_other id change a f) ∙ e) (in_others ops (Some id) a present f))
 after_cases ops (Withdraw id) distinct accepted x h = inl h
 after_cases ops (Claim kind) distinct accepted x h = inl (in_others ops None x h refl)
 
@@ -113,16 +113,16 @@ after_cases ops (Claim kind) distinct accepted x h = inl (in_others ops None x h
 module _ (others : List Op) (id : Option OpId) (others_apart : (x : Op) → Contains others x → has_id id x ≡ false) where
   pub added_of : (one : Option Op) (ops : List Op) → AreSequential ops → ((x : Op) → Contains others x → Contains ops x) → ((x : Op) → one ≡ Some x → Contains ops x × (has_id id x ≡ true))
       → ((x : Op) → Contains ops x → IsAmong others one x) → IsAddedOf others one ops
-  added_of None ops apart stay stands cases = record { kept = λ v write h. stay v h; only = λ v write h. by_cases v (cases v h) }
+  added_of None ops apart stay present cases = record { kept = λ v write h. stay v h; only = λ v write h. by_cases v (cases v h) }
     where
       by_cases : (v : Op) → IsAmong others None v → Contains others v
       by_cases v (inl h) = h
       by_cases v (inr e) = absurd (cc)
-  added_of (Some op) ops apart stay stands cases = record {
-    added = λ write. (stands op refl).0;
+  added_of (Some op) ops apart stay present cases = record {
+    added = λ write. (present op refl).0;
     kept = λ v write h. stay v h;
     only = λ v write h. by_cases v (cases v h);
-    apart = λ write v h wv e. both_ways (has_id id v) (others_apart v h) (subst (λ (o : Op). has_id id o ≡ true) (sym (apart.one v op (stay v h) (stands op refl).0 wv write e)) (stands op refl).1);
+    apart = λ write v h wv e. both_ways (has_id id v) (others_apart v h) (subst (λ (o : Op). has_id id o ≡ true) (sym (apart.one v op (stay v h) (present op refl).0 wv write e)) (present op refl).1);
   }
     where
       by_cases : (v : Op) → IsAmong others (Some op) v → Contains others v ⊎ (v ≡ op)
@@ -131,8 +131,8 @@ module _ (others : List Op) (id : Option OpId) (others_apart : (x : Op) → Cont
 
 -- the writes before the edit are those of the others and the one that goes, those after it and the one that comes
 pub goes : (ops : List Op) (id : Option OpId) → HasDistinctIds ops → AreSequential ops → IsAddedOf (others_of ops id) (found_by ops id) ops
-goes ops id distinct apart = added_of (others_of ops id) id (other_apart ops id) (found_by ops id) ops apart (other_stands ops id) (found_stands ops id) (before_cases ops id distinct)
+goes ops id distinct apart = added_of (others_of ops id) id (other_apart ops id) (found_by ops id) ops apart (other_present ops id) (found_present ops id) (before_cases ops id distinct)
 
 pub comes : (ops : List Op) (edit : Edit) → HasDistinctIds ops → first_refusal ops edit ≡ None → AreSequential (edited ops edit) → IsAddedOf (others_of ops (edit_id edit)) (new_op ops edit) (edited ops edit)
 comes ops edit distinct accepted apart =
-    added_of (others_of ops (edit_id edit)) (edit_id edit) (other_apart ops (edit_id edit)) (new_op ops edit) (edited ops edit) apart (other_after ops edit) (new_stands ops edit) (after_cases ops edit distinct accepted)
+    added_of (others_of ops (edit_id edit)) (edit_id edit) (other_apart ops (edit_id edit)) (new_op ops edit) (edited ops edit) apart (other_after ops edit) (new_present ops edit) (after_cases ops edit distinct accepted)

@@ -50,19 +50,19 @@ module _ (claim : ClaimModel) (ops : List Op) (apart : AreSequential ops) (r : O
   none_past : (P : Op → Type 0) (next : Option Op) → IsFirstWriteOf P ops next → ¬ EndsBefore (optional_end next) r.begin → (w : Op) → Contains ops w → IsWrite w → P w → ¬ Precedes w r
   none_past P next is not w sw ww fits before =
       let n = first_found P ops next is w sw ww fits in
-      not (subst (λ (o : Option Op). EndsBefore (optional_end o) r.begin) (sym n.1) (precedes_with ops apart n.0 w r n.2.stands sw n.2.write ww n.3 before))
+      not (subst (λ (o : Option Op). EndsBefore (optional_end o) r.begin) (sym n.1) (precedes_with ops apart n.0 w r n.2.present sw n.2.write ww n.3 before))
 
   -- a regular register, and no write of r's value begins before r ends
   module _ (none : NoneFits (IsNear Regular r) ops) where
     -- then r is right only with the initial value, and no write precedes it
     alone : IsRegularRead claim ops r → All (λ w. IsWrite w → ¬ Precedes w r) ops × (value_of r.act ≡ claim.initial)
     alone (inl any) = absurd (none any.1 (any.0, any.2, any.3) any.4.0 (sym any.4.2, among.reached any.1 (any.0, any.2, any.3) any.4.0 any.4.1.1))
-    alone (inr (inl l)) = absurd (none l.0 l.1.stands l.1.write (sym l.2, before_reached l.0 l.1.stands l.1.write l.1.before))
+    alone (inr (inl l)) = absurd (none l.0 l.1.present l.1.write (sym l.2, before_reached l.0 l.1.present l.1.write l.1.before))
     alone (inr (inr h)) = h
 
     past_initial : (next : Option Op) → IsFirstWriteOf (BeginsFrom 0) ops next → EndsBefore (optional_end next) r.begin → ¬ IsRegularRead claim ops r
     past_initial None is past right = past
-    past_initial (Some n) is past right = All-contains (λ w. IsWrite w → ¬ Precedes w r) ops n (alone right).0 is.stands is.write past
+    past_initial (Some n) is past right = All-contains (λ w. IsWrite w → ¬ Precedes w r) ops n (alone right).0 is.present is.write past
 
   -- the initial value is right where the first of all writes does not precede r
   right_initial : (next : Option Op) → value_of r.act ≡ claim.initial → IsFirstWriteOf (BeginsFrom 0) ops next → ¬ EndsBefore (optional_end next) r.begin → IsRegularRead claim ops r
@@ -81,13 +81,13 @@ module _ (claim : ClaimModel) (ops : List Op) (apart : AreSequential ops) (r : O
             let sv : Contains ops any.1 = (any.0, any.2, any.3) in
             let le = last.last any.1 sv any.4.0 (sym any.4.2, among.reached any.1 sv any.4.0 any.4.1.1) in
             let lt : w.begin.0 < n.begin.0 = first.fits in
-            any.4.1.0 (precedes_with ops apart any.1 n r sv first.stands any.4.0 first.write (omega arith) past)
+            any.4.1.0 (precedes_with ops apart any.1 n r sv first.present any.4.0 first.write (omega arith) past)
         by_cases (Some n) first past (inr (inl l)) =
-            let le = last.last l.0 l.1.stands l.1.write (sym l.2, before_reached l.0 l.1.stands l.1.write l.1.before) in
+            let le = last.last l.0 l.1.present l.1.write (sym l.2, before_reached l.0 l.1.present l.1.write l.1.before) in
             let lt : w.begin.0 < n.begin.0 = first.fits in
-            let ge : n.begin.0 ≤ l.0.begin.0 = All-contains (λ v. IsWrite v → Precedes v r → v.begin.0 ≤ l.0.begin.0) ops n l.1.last first.stands first.write past in
+            let ge : n.begin.0 ≤ l.0.begin.0 = All-contains (λ v. IsWrite v → Precedes v r → v.begin.0 ≤ l.0.begin.0) ops n l.1.last first.present first.write past in
             omega arith
-        by_cases (Some n) first past (inr (inr h)) = All-contains (λ v. IsWrite v → ¬ Precedes v r) ops n h.0 first.stands first.write past
+        by_cases (Some n) first past (inr (inr h)) = All-contains (λ v. IsWrite v → ¬ Precedes v r) ops n h.0 first.present first.write past
 
     no_later : ¬ EndsBefore (optional_end next) r.begin → (v : Op) → Contains ops v → IsWrite v → Precedes v r → v.begin.0 ≤ w.begin.0
     no_later not v sv wv before = by_cases (cases_lt w.begin.0 v.begin.0)
@@ -103,10 +103,10 @@ module _ (claim : ClaimModel) (ops : List Op) (apart : AreSequential ops) (r : O
         by_cases : Precedes w r ⊎ (¬ Precedes w r) → IsRegularRead claim ops r
         by_cases (inl before) = inr (inl (
           w,
-          record { stands = last.stands; write = last.write; before = before; last = all_from (λ v. IsWrite v → Precedes v r → v.begin.0 ≤ w.begin.0) ops (no_later not) },
+          record { present = last.present; write = last.write; before = before; last = all_from (λ v. IsWrite v → Precedes v r → v.begin.0 ≤ w.begin.0) ops (no_later not) },
           sym last.fits.0,
         ))
-        by_cases (inr over) = inl (last.stands.0, w, last.stands.1, last.stands.2, (last.write, (over, among.not_over w last.fits.1), sym last.fits.0))
+        by_cases (inr over) = inl (last.present.0, w, last.present.1, last.present.2, (last.write, (over, among.not_over w last.fits.1), sym last.fits.0))
 
   -- a safe register, and no write begins before r ends
   module _ (none : NoneFits (IsNear Safe r) ops) where
@@ -120,7 +120,7 @@ module _ (claim : ClaimModel) (ops : List Op) (apart : AreSequential ops) (r : O
     wrong_initial other right = by_cases (right.0 (λ any. none any.1 (any.0, any.2, any.3) any.4.0 (refl, among.reached any.1 (any.0, any.2, any.3) any.4.0 any.4.1.1)))
       where
         by_cases : ReturnsLast claim.initial ops r → ⊥
-        by_cases (inl l) = none l.0 l.1.stands l.1.write (refl, before_reached l.0 l.1.stands l.1.write l.1.before)
+        by_cases (inl l) = none l.0 l.1.present l.1.write (refl, before_reached l.0 l.1.present l.1.write l.1.before)
         by_cases (inr h) = other h.1
 
   -- a safe register, and w is the last write to begin before r ends
@@ -134,7 +134,7 @@ module _ (claim : ClaimModel) (ops : List Op) (apart : AreSequential ops) (r : O
         by_cases (inl before) (inl same) _ = inl (
           w,
           record {
-            stands = last.stands;
+            present = last.present;
             write = last.write;
             before = before;
             last = all_from (λ v. IsWrite v → Precedes v r → v.begin.0 ≤ w.begin.0) ops (λ v sv wv ahead. last.last v sv wv (refl, before_reached v sv wv ahead));
@@ -142,13 +142,13 @@ module _ (claim : ClaimModel) (ops : List Op) (apart : AreSequential ops) (r : O
           same,
         )
         by_cases (inl before) (inr other) _ = absurd (not (other, before))
-        by_cases (inr over) _ none = absurd (none (overlaps_here w last.stands last.write last.fits.1 over))
+        by_cases (inr over) _ none = absurd (none (overlaps_here w last.present last.write last.fits.1 over))
 
     none_over : Precedes w r → ¬ OverlapsWrite ops r
     none_over before any =
         let sv : Contains ops any.1 = (any.0, any.2, any.3) in
         let le = last.last any.1 sv any.4.0 (refl, among.reached any.1 sv any.4.0 any.4.1.1) in
-        any.4.1.0 (precedes_with ops apart any.1 w r sv last.stands any.4.0 last.write le before)
+        any.4.1.0 (precedes_with ops apart any.1 w r sv last.present any.4.0 last.write le before)
 
     -- r with another value than w is wrong where w precedes it
     pub wrong_write : (value_of r.act ≢ value_of w.act) × Precedes w r → ¬ IsSafeRead claim ops r
@@ -156,17 +156,17 @@ module _ (claim : ClaimModel) (ops : List Op) (apart : AreSequential ops) (r : O
       where
         by_cases : ReturnsLast claim.initial ops r → ⊥
         by_cases (inl l) =
-            let le = last.last l.0 l.1.stands l.1.write (refl, before_reached l.0 l.1.stands l.1.write l.1.before) in
-            let ge : w.begin.0 ≤ l.0.begin.0 = All-contains (λ v. IsWrite v → Precedes v r → v.begin.0 ≤ l.0.begin.0) ops w l.1.last last.stands last.write before in
-            other (l.2 ∙ ap (λ (o : Op). value_of o.act) (apart.one l.0 w l.1.stands last.stands l.1.write last.write (omega arith)))
-        by_cases (inr h) = All-contains (λ v. IsWrite v → ¬ Precedes v r) ops w h.0 last.stands last.write before
+            let le = last.last l.0 l.1.present l.1.write (refl, before_reached l.0 l.1.present l.1.write l.1.before) in
+            let ge : w.begin.0 ≤ l.0.begin.0 = All-contains (λ v. IsWrite v → Precedes v r → v.begin.0 ≤ l.0.begin.0) ops w l.1.last last.present last.write before in
+            other (l.2 ∙ ap (λ (o : Op). value_of o.act) (apart.one l.0 w l.1.present last.present l.1.write last.write (omega arith)))
+        by_cases (inr h) = All-contains (λ v. IsWrite v → ¬ Precedes v r) ops w h.0 last.present last.write before
 
   -- a read of a value that is not allowed is wrong
   pub wrong_value : ((w : Op) → Contains ops w → IsWrite w → IsInValueSet claim (value_of w.act)) → IsInValueSet claim claim.initial → ¬ IsInValueSet claim (value_of r.act) → ¬ IsSafeRead claim ops r
   wrong_value of_writes of_initial none right = by_cases (right.0 (λ over. none (right.1 over)))
     where
       by_cases : ReturnsLast claim.initial ops r → ⊥
-      by_cases (inl l) = none (subst (IsInValueSet claim) (sym l.2) (of_writes l.0 l.1.stands l.1.write))
+      by_cases (inl l) = none (subst (IsInValueSet claim) (sym l.2) (of_writes l.0 l.1.present l.1.write))
       by_cases (inr h) = none (subst (IsInValueSet claim) (sym h.1) of_initial)
 
 pub true_not : (Q : Type 0) (q : Bool) → Decides q Q → ¬ Q → true ≡ not q
@@ -224,7 +224,7 @@ module _ (base : ClaimModel) (ops : List Op) (apart : AreSequential ops) (r : Op
       (regular_by k.next (past_initial regular ops apart r among k.none k.next k.next_is) (right_initial regular ops apart r among k.next (sym k.row) k.next_is)))
   regular_short c (inr (inr k)) = regular_none c k
 
-module _ (base : ClaimModel) (ops : List Op) (apart : AreSequential ops) (r : Op) (among : IsReadAmong ops r) (low : All IsWithinMoments ops) (stands : Contains ops r)
+module _ (base : ClaimModel) (ops : List Op) (apart : AreSequential ops) (r : Op) (among : IsReadAmong ops r) (low : All IsWithinMoments ops) (present : Contains ops r)
     (of_writes : (w : Op) → Contains ops w → IsWrite w → IsInValueSet base (value_of w.act)) (of_initial : IsInValueSet base base.initial) where
   abbrev safe : ClaimModel
   safe = record base { kind = Safe }
@@ -258,7 +258,7 @@ module _ (base : ClaimModel) (ops : List Op) (apart : AreSequential ops) (r : Op
         chosen false = refl
 
         short : is_short_by (Some (cover_item safe w next)) ≡ not (same_value (value_of r.act) (value_of w.act)) && precedes w r
-        short = rw (allowed, reach_test w.end r.begin (low_of r stands).begin) (chosen (same_value (value_of r.act) (value_of w.act)))
+        short = rw (allowed, reach_test w.end r.begin (low_of r present).begin) (chosen (same_value (value_of r.act) (value_of w.act)))
 
     allowed_initial : (next : Option Op) → NoneFits (IsNear Safe r) ops → IsShortAs (Some (initial_item safe next))
     allowed_initial next none =
@@ -310,7 +310,7 @@ module _ (base : ClaimModel) (ops : List Op) (apart : AreSequential ops) (r : Op
 
       by_cases : IsNearest safe ops r c → (allows ≡ true) ⊎ (allows ≡ false) → IsShortAs c
       by_cases (inl k) (inl t) = subst IsShortAs (sym k.is) (allowed_write t k.write k.next k.last)
-      by_cases (inl k) (inr f) = subst IsShortAs (sym k.is) (refused_write f k.write k.next k.last.stands k.last.write)
+      by_cases (inl k) (inr f) = subst IsShortAs (sym k.is) (refused_write f k.write k.next k.last.present k.last.write)
       by_cases (inr (inl k)) (inl t) = subst IsShortAs (sym k.is) (allowed_initial t k.next k.none)
       by_cases (inr (inl k)) (inr f) = subst IsShortAs (sym k.is) (refused_initial f k.next)
       by_cases (inr (inr k)) _ = absurd (k.row refl)
@@ -325,20 +325,20 @@ pub in_value_set : (claim : ClaimModel) (ops : List Op) → AreOneWriters claim 
 in_value_set claim ops apart w sw ww =
     (Decides-is_allowed claim.domain claim.initial (value_of w.act)).0 (write_allowed claim ops apart w sw ww)
 
-module _ (ops : List Op) (items : List RowItem) (r : Op) (stands : Contains ops r) (judged : IsJudgedRead r) (c : Option RowItem) (base : ClaimModel) where
+module _ (ops : List Op) (items : List RowItem) (r : Op) (present : Contains ops r) (judged : IsJudgedRead r) (c : Option RowItem) (base : ClaimModel) where
   by_kind : (kind : Kind) → let claim : ClaimModel = record base { kind = kind } in AreOneWriters claim ops → AreItemsOf claim ops items → IsCoverAt items (spot_of_item (read_item claim r)) c
       → is_uncovered (option_map cover_of c) (read_item claim r) ≡ is_wrong_read claim ops r
   by_kind Safe apart are is =
       let claim : ClaimModel = record base { kind = Safe } in
-      let low = All-contains IsWithinMoments ops r (all_low claim ops apart) stands in
+      let low = All-contains IsWithinMoments ops r (all_low claim ops apart) present in
       rw judged
-      (safe_short base ops (are_apart ops apart.kept.moments apart.kept.ends (apart.kept.writes apart.one_writer)) r (read_among claim ops apart r stands judged) (all_low claim ops apart) stands
+      (safe_short base ops (are_apart ops apart.kept.moments apart.kept.ends (apart.kept.writes apart.one_writer)) r (read_among claim ops apart r present judged) (all_low claim ops apart) present
       (in_value_set claim ops apart) (initial_in_set base.domain base.initial) c (nearest claim ops items are r low.end c is))
   by_kind Regular apart are is =
       let claim : ClaimModel = record base { kind = Regular } in
-      let low = All-contains IsWithinMoments ops r (all_low claim ops apart) stands in
+      let low = All-contains IsWithinMoments ops r (all_low claim ops apart) present in
       rw judged
-      (regular_short base ops (are_apart ops apart.kept.moments apart.kept.ends (apart.kept.writes apart.one_writer)) r (read_among claim ops apart r stands judged) low.begin c
+      (regular_short base ops (are_apart ops apart.kept.moments apart.kept.ends (apart.kept.writes apart.one_writer)) r (read_among claim ops apart r present judged) low.begin c
       (nearest claim ops items are r low.end c is))
   by_kind Atomic apart are is = absurd (apart.one_writer refl)
 
@@ -346,4 +346,4 @@ module _ (claim : ClaimModel) (ops : List Op) (apart : AreOneWriters claim ops) 
   -- the last cover before a judged read leaves it uncovered exactly where it breaks its register's sentence
   pub covered : (r : Op) → Contains ops r → IsJudgedRead r → (c : Option RowItem) → IsCoverAt items (spot_of_item (read_item claim r)) c
       → is_uncovered (option_map cover_of c) (read_item claim r) ≡ is_wrong_read claim ops r
-  covered r stands judged c is = by_kind ops items r stands judged c claim claim.kind apart are is
+  covered r present judged c is = by_kind ops items r present judged c claim claim.kind apart are is

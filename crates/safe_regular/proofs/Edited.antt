@@ -42,8 +42,8 @@ in_domain (Some values) initial value t = rw t refl
 
 -- a write of the list has a value of the value set
 pub write_allowed : (claim : ClaimModel) (ops : List Op) → AreOneWriters claim ops → (w : Op) → Contains ops w → IsWrite w → is_allowed claim.domain claim.initial (value_of w.act) ≡ true
-write_allowed claim ops apart w stands write =
-    in_domain claim.domain claim.initial (value_of w.act) (All-contains (λ v. IsWrite v → IsPermitted claim v) ops w apart.kept.allowed stands write).value
+write_allowed claim ops apart w present write =
+    in_domain claim.domain claim.initial (value_of w.act) (All-contains (λ v. IsWrite v → IsPermitted claim v) ops w apart.kept.allowed present write).value
 
 pub apart_kept : (claim : ClaimModel) (ops : List Op) (edit : Edit) → AreOneWriters claim ops → reply_to claim ops edit ≡ None → AreOneWriters claim (edited ops edit)
 apart_kept claim ops edit apart accepted = record { one_writer = apart.one_writer; kept = edited_apart claim ops edit apart.kept accepted }

@@ -8,7 +8,7 @@ use Rattle.intervals.specs.OrderedIndex.{same_spot}
 use Rattle.intervals.specs.Terms.{ClaimModel}
 use Rattle.read_tree.specs.declared.item.RowItem.{RowItem}
 use Rattle.read_tree.specs.Items.{AreItemsInOrder, item_at_spot, spot_of_item, renewed}
-use Rattle.read_tree.proofs.Members.{kept_from, kept_in, none_found_where, new_or_old, new_stands, old_stands, one_of_a_spot, renewed_from, renewed_in, stays_in}
+use Rattle.read_tree.proofs.Members.{kept_from, kept_in, none_found_where, new_or_old, new_present, old_present, one_of_a_spot, renewed_from, renewed_in, stays_in}
 use Rattle.read_tree.proofs.Order.{same_true}
 use Rattle.safe_regular.specs.RowItems.{IsAway, IsExchanged, IsFreeFor, IsItemOf, IsRenewed, HasItemAt, items_renewed, items_with, items_without}
 
@@ -25,23 +25,23 @@ pub place_is_new : (spot : Option Spot) (item : Option RowItem) (items : List Ro
 place_is_new spot None items free = tt
 place_is_new spot (Some x) items free = none_found_where (λ y. same_spot (spot_of_item y) (spot_of_item x)) (items_without spot items) (λ y h. let from = gone_from spot items y h in free y from.0 from.1)
 
-put_stands : (item : Option RowItem) (items : List RowItem) (x : RowItem) → item ≡ Some x → Contains (items_with item items) x
-put_stands None items x e = absurd (cc)
-put_stands (Some y) items x e = let same : y ≡ x = cc in subst (Contains (items_with (Some y) items)) same (new_stands y items)
+put_present : (item : Option RowItem) (items : List RowItem) (x : RowItem) → item ≡ Some x → Contains (items_with item items) x
+put_present None items x e = absurd (cc)
+put_present (Some y) items x e = let same : y ≡ x = cc in subst (Contains (items_with (Some y) items)) same (new_present y items)
 
 stays_with : (item : Option RowItem) (items : List RowItem) → IfSome item (λ y. item_at_spot (spot_of_item y) items ≡ None) → (x : RowItem) → Contains items x → Contains (items_with item items) x
 stays_with None items none x h = h
-stays_with (Some y) items none x h = old_stands y items none x h
+stays_with (Some y) items none x h = old_present y items none x h
 
 from_with : (item : Option RowItem) (items : List RowItem) (x : RowItem) → Contains (items_with item items) x → Contains items x ⊎ (item ≡ Some x)
 from_with None items x h = inl h
-from_with (Some y) items x h = elim (new_or_old y items x h) [ inl same ↦ inr (ap Some (sym same)) | inr stands ↦ inl stands ]
+from_with (Some y) items x h = elim (new_or_old y items x h) [ inl same ↦ inr (ap Some (sym same)) | inr present ↦ inl present ]
 
 pub is_exchanged : (spot : Option Spot) (item : Option RowItem) (items : List RowItem) → IsFreeFor spot item items → IsExchanged spot item items (items_with item (items_without spot items))
 is_exchanged spot item items free = record {
   kept = λ x h away. stays_with item (items_without spot items) (place_is_new spot item items free) x (stays_without spot items x h away);
-  put = λ x e. put_stands item (items_without spot items) x e;
-  only = λ x h. elim (from_with item (items_without spot items) x h) [ inl stands ↦ inl (gone_from spot items x stands) | inr e ↦ inr e ];
+  put = λ x e. put_present item (items_without spot items) x e;
+  only = λ x h. elim (from_with item (items_without spot items) x h) [ inl present ↦ inl (gone_from spot items x present) | inr e ↦ inr e ];
 }
 
 pub is_renewed : (item : Option RowItem) (items : List RowItem) → IsRenewed item items (items_renewed item items)
@@ -63,9 +63,9 @@ is_exchanged_there (Some spot) (Some y) items taken (s, x, at, is, e) =
     let place : spot ≡ spot_of_item y = same ∙ sym e ∙ ap spot_of_item (sym same_item) in
     let (old, h, t) = taken in
     record {
-      kept = λ z stands away. stays_in y items z stands (subst (λ (p : Spot). same_spot (spot_of_item z) p ≡ false) place away);
+      kept = λ z present away. stays_in y items z present (subst (λ (p : Spot). same_spot (spot_of_item z) p ≡ false) place away);
       put = λ z f. let same_z : y ≡ z = cc in subst (Contains (renewed y items)) same_z (renewed_in y items old h (subst (λ (p : Spot). same_spot (spot_of_item old) p ≡ true) place t));
-      only = λ z stands. elim (renewed_from y items z stands) [
+      only = λ z present. elim (renewed_from y items z present) [
         | inl stays ↦ inl (stays.0, subst (λ (p : Spot). same_spot (spot_of_item z) p ≡ false) (sym place) stays.1)
         | inr came ↦ inr (ap Some (sym came.0))
       ];
@@ -73,25 +73,25 @@ is_exchanged_there (Some spot) (Some y) items taken (s, x, at, is, e) =
 
 -- to exchange an item for itself changes nothing
 pub is_exchanged_itself : (spot : Option Spot) (x : RowItem) (items : List RowItem) → AreItemsInOrder items → Contains items x → spot ≡ Some (spot_of_item x) → IsExchanged spot (Some x) items items
-is_exchanged_itself None x items order stands at = absurd (cc)
-is_exchanged_itself (Some spot) x items order stands at =
+is_exchanged_itself None x items order present at = absurd (cc)
+is_exchanged_itself (Some spot) x items order present at =
     let place : spot ≡ spot_of_item x = cc in
     record {
       kept = λ z h away. h;
-      put = λ z e. let same : x ≡ z = cc in subst (Contains items) same stands;
+      put = λ z e. let same : x ≡ z = cc in subst (Contains items) same present;
       only = λ z h. elim (cases_Bool (same_spot (spot_of_item z) spot)) [
-        | inl t ↦ inr (ap Some (one_of_a_spot items x z order stands h (sym place ∙ sym (same_true (spot_of_item z) spot t))))
+        | inl t ↦ inr (ap Some (one_of_a_spot items x z order present h (sym place ∙ sym (same_true (spot_of_item z) spot t))))
         | inr f ↦ inl (h, f)
       ];
     }
 
 pub is_renewed_itself : (x : RowItem) (before after : List RowItem) → AreItemsInOrder before → Contains before x → IsRenewed None before after → IsRenewed (Some x) before after
-is_renewed_itself x before after order stands kept = record {
+is_renewed_itself x before after order present kept = record {
   kept = λ z h away. kept.kept z h tt;
-  put = λ z other e h t. let same : x ≡ z = cc in subst (Contains after) same (kept.kept x stands tt);
+  put = λ z other e h t. let same : x ≡ z = cc in subst (Contains after) same (kept.kept x present tt);
   only = λ z h. elim (kept.only z h) [
     | inl stood ↦ elim (cases_Bool (same_spot (spot_of_item z) (spot_of_item x))) [
-      | inl t ↦ inr (ap Some (one_of_a_spot before x z order stands stood.0 (sym (same_true (spot_of_item z) (spot_of_item x) t))))
+      | inl t ↦ inr (ap Some (one_of_a_spot before x z order present stood.0 (sym (same_true (spot_of_item z) (spot_of_item x) t))))
       | inr f ↦ inl (stood.0, f)
     ]
     | inr came ↦ absurd (cc)

@@ -15,7 +15,7 @@ use Rattle.safe_regular.specs.First.{IsFirstWrong}
 pub first_wrong_is : (claim : ClaimModel) (ops : List Op) → HasDistinctEnds ops → (found : Option Op) → IsFirstWrong claim ops found → first_wrong claim ops ≡ found
 first_wrong_is claim ops distinct None none = none_least end_number (is_wrong_read claim ops) ops none
 first_wrong_is claim ops distinct (Some r) is = least_is end_number (is_wrong_read claim ops) ops r told (record {
-  stands = is.stands;
+  present = is.present;
   passes = is.wrong;
   least = all_from (λ o. IsTrue (is_wrong_read claim ops o) → end_number r ≤ end_number o) ops is.first;
 })

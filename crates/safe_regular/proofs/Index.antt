@@ -16,12 +16,12 @@ module _ (Fits : Op → Type 0) (Q : Moment → Type 0) (says : (w : Op) → Fit
     (ops : List Op) (at : Moment → Option OpId) (index : IsIndex ops at) where
   -- where no moment with Q has an id, no write has the property
   pub none_indexed : ((m : Moment) → Q m → at m ≡ None) → NoneFits Fits ops
-  none_indexed none w stands write fits =
+  none_indexed none w present write fits =
       let e = none w.begin (says w fits) in
-      let f = index.there w stands write in
+      let f = index.there w present write in
       absurd (cc)
 
-  module _ (one : (v w : Op) → Contains ops v → Contains ops w → v.id ≡ w.id → v ≡ w) (m : Moment) (id : OpId) (found : Op) (stands : Contains ops found) (own : found.id ≡ id) where
+  module _ (one : (v w : Op) → Contains ops v → Contains ops w → v.id ≡ w.id → v ≡ w) (m : Moment) (id : OpId) (found : Op) (present : Contains ops found) (own : found.id ≡ id) where
     abbrev pub IsThat : Type 0
     IsThat = IsWrite found × (found.begin ≡ m)
 
@@ -29,13 +29,13 @@ module _ (Fits : Op → Type 0) (Q : Moment → Type 0) (says : (w : Op) → Fit
     is_that : at m ≡ Some id → IsThat
     is_that e =
         let w = index.back m id e in
-        subst (λ (o : Op). IsWrite o × (o.begin ≡ m)) (one w.0 found w.1 stands (w.4 ∙ sym own)) (w.2, w.3)
+        subst (λ (o : Op). IsWrite o × (o.begin ≡ m)) (one w.0 found w.1 present (w.4 ∙ sym own)) (w.2, w.3)
 
     pub last_indexed : IsLastAt Q at m id → IsLastWrite Fits ops found
     last_indexed is =
-        let it : IsThat = is_that is.stands in
+        let it : IsThat = is_that is.present in
         record {
-          stands = stands;
+          present = present;
           write = it.0;
           fits = met found (subst (λ (n : Moment). Q n) (sym it.1) is.here);
           last = λ w sw ww fits. by_cases w sw ww fits it.1 (cases_lt found.begin.0 w.begin.0);
@@ -49,9 +49,9 @@ module _ (Fits : Op → Type 0) (Q : Moment → Type 0) (says : (w : Op) → Fit
 
     pub first_indexed : IsFirstAt Q at m id → IsFirstWrite Fits ops found
     first_indexed is =
-        let it : IsThat = is_that is.stands in
+        let it : IsThat = is_that is.present in
         record {
-          stands = stands;
+          present = present;
           write = it.0;
           fits = met found (subst (λ (n : Moment). Q n) (sym it.1) is.here);
           first = λ w sw ww fits. by_cases w sw ww fits it.1 (cases_lt w.begin.0 found.begin.0);
@@ -73,7 +73,7 @@ module _ (others : List Op) (w : Op) (ops : List Op) (is : IsAdded others w ops)
   }
     where
       by_cases : (v : Op) → IsWrite v → Contains others v ⊎ (v ≡ w) → new v.begin ≡ Some v.id
-      by_cases v wv (inl stands) = kept v.begin (is.apart write v stands wv) ∙ index.there v stands wv
+      by_cases v wv (inl present) = kept v.begin (is.apart write v present wv) ∙ index.there v present wv
       by_cases v wv (inr e) = subst (λ (o : Op). new o.begin ≡ Some o.id) (sym e) here
 
       by_moment : (m : Moment) (id : OpId) → new m ≡ Some id → (m.0 ≡ w.begin.0) ⊎ (m.0 ≢ w.begin.0) → (v : Op) × Contains ops v × IsWrite v × (v.begin ≡ m) × (v.id ≡ id)
@@ -97,15 +97,5 @@ module _ (others : List Op) (w : Op) (ops : List Op) (is : IsAdded others w ops)
           let v = index.back m id (sym (kept m other) ∙ e) in by_cases v.0 v.2 v.3 v.4 (is.only v.0 v.2 v.1)
         where
           by_cases : (v : Op) → IsWrite v → v.begin ≡ m → v.id ≡ id → Contains others v ⊎ (v ≡ w) → (v : Op) × Contains others v × IsWrite v × (v.begin ≡ m) × (v.id ≡ id)
-          by_cases v wv b i (inl stands) = (v, stands, wv, b, i)
+          by_cases v wv b i (inl present) = (v, present, wv, b, i)
           by_cases v wv b i (inr same) = absurd (other (ap (λ (n : Moment). n.0) (sym b) ∙ ap (λ (o : Op). o.begin.0) same))
-
--- the first write from moment + 1 on is the first after the moment
-pub first_after : (ops : List Op) (moment : ℕ) (found : Option Op) → IsFirstWriteOf (BeginsFrom (moment + 1)) ops found → IsFirstWriteOf (BeginsAfter moment) ops found
-first_after ops moment None none = λ w stands write fits. none w stands write (omega arith)
-first_after ops moment (Some v) is = record {
-  stands = is.stands;
-  write = is.write;
-  fits = let from : moment + 1 ≤ v.begin.0 = is.fits in omega arith;
-  first = λ w stands write fits. is.first w stands write (omega arith);
-}

@@ -52,25 +52,25 @@ module _ (claim : ClaimModel) (ops others after : List Op) (old new : Option Op)
     (after_cases : (x : Op) → Contains after x → IsAmong others new x) (in_after : (x : Op) → IsAmong others new x → Contains after x)
     (items : List RowItem) (are : AreItemsOf claim ops items) where
   -- an operation that begins at m does not begin at m + 1 or later, so it is apart from there (`IsApartFrom`)
-  not_behind : (one : Option Op) (w : Op) → one ≡ Some w → (m : ℕ) → w.begin.0 ≡ m → IsApartFrom ops others after old new before_cases in_before after_cases in_after one (suc m)
-  not_behind one w is m begins p p_is write from =
+  not_after : (one : Option Op) (w : Op) → one ≡ Some w → (m : ℕ) → w.begin.0 ≡ m → IsApartFrom ops others after old new before_cases in_before after_cases in_after one (suc m)
+  not_after one w is m begins p p_is write from =
       let same : w ≡ p = cc in
       let begins_p : w.begin.0 ≡ p.begin.0 = ap (λ (o : Op). o.begin.0) same in
       absurd (omega (arith, from, begins, begins_p))
 
   -- a cover that its write keeps is in the tree already
-  pub own_cover_stands : KeepsItsCover claim.kind old new → IsLaidAlready claim after old new items
-  own_cover_stands keeps =
+  pub own_cover_present : KeepsItsCover claim.kind old new → IsLaidAlready claim after old new items
+  own_cover_present keeps =
       let (o, n, old_is, new_is, one) = keeps.one in
       let alike = one.alike in
       let (next, next_is) = some_first (suc n.begin.0) after in
       let was_is : IsFirstWriteOf (BeginsFrom (suc n.begin.0)) ops next =
       next_before ops others after old new before_cases in_before after_cases in_after (suc n.begin.0)
-      (not_behind old o old_is n.begin.0 (ap (λ (m : Moment). m.0) alike.begin)) (not_behind new n new_is n.begin.0 refl) next next_is in
+      (not_after old o old_is n.begin.0 (ap (λ (m : Moment). m.0) alike.begin)) (not_after new n new_is n.begin.0 refl) next next_is in
       let same : cover_item claim o next ≡ cover_item claim n next = one_cover claim keeps.rows o n one next in
       let at : spot_of_item (cover_item claim n next) ≡ place_in claim n = place_of_cover claim after after_apart n next alike.new_writes in
       let is_item : IsOperationItem claim after (cover_item claim n next) =
-      inr (inl (record { write = n; stands = in_after n (inr new_is); writes = alike.new_writes; next = next; next_is = next_is; is = refl })) in
+      inr (inl (record { write = n; present = in_after n (inr new_is); writes = alike.new_writes; next = next; next_is = next_is; is = refl })) in
       record {
         item = cover_item claim n next;
         is = record {
@@ -78,9 +78,9 @@ module _ (claim : ClaimModel) (ops others after : List Op) (old new : Option Op)
               (same_in (cover_item claim n next) y e) (is_item, (n, new_is, inl alike.new_writes, at));
           there = λ p e p_laid. (cover_item claim n next, refl);
         };
-        stands = subst (Contains items) same (are.each (cover_item claim o next) (inr (inl (record {
+        present = subst (Contains items) same (are.each (cover_item claim o next) (inr (inl (record {
           write = o;
-          stands = in_before o (inr old_is);
+          present = in_before o (inr old_is);
           writes = alike.old_writes;
           next = next;
           next_is = subst (λ (m : Moment). IsFirstWriteOf (BeginsFrom (suc m.0)) ops next) (sym alike.begin) was_is;
@@ -105,16 +105,16 @@ some_last m ops = (least_by left test ops, by_cases (least_by left test ops) ref
     passes op = Decides-and (is_write op) (nat_lt op.begin.0 m) (Decides-IsTrue (is_write op)) (Decides-ltb op.begin.0 m)
 
     by_cases : (found : Option Op) → least_by left test ops ≡ found → IsLastOf (BeginsBefore m) ops found
-    by_cases None e = λ w stands write fits. All-contains (λ o. ¬ IsTrue (test o)) ops w (least_from-None left test None ops e).1 stands ((passes w).1 (write, fits))
+    by_cases None e = λ w present write fits. All-contains (λ o. ¬ IsTrue (test o)) ops w (least_from-None left test None ops e).1 present ((passes w).1 (write, fits))
     by_cases (Some n) e =
         let is = least_by-IsLeast left test ops n e in
         let q = (passes n).0 is.passes in
         record {
-          stands = is.stands;
+          present = is.present;
           write = q.0;
           fits = q.1;
-          last = λ w stands write fits.
-              let le : left n ≤ left w = All-contains (λ o. IsTrue (test o) → left n ≤ left o) ops w is.least stands ((passes w).1 (write, fits)) in
+          last = λ w present write fits.
+              let le : left n ≤ left w = All-contains (λ o. IsTrue (test o) → left n ≤ left o) ops w is.least present ((passes w).1 (write, fits)) in
               let lt : n.begin.0 < m = q.1 in
               omega (arith, le, lt, fits);
         }
@@ -127,20 +127,20 @@ module _ (claim : ClaimModel) (ops others after : List Op) (old new : Option Op)
   abbrev op : Op
   op = comes.write
 
-  op_stands : Contains after op
-  op_stands = in_after op (inr comes.is)
+  op_present : Contains after op
+  op_present = in_after op (inr comes.is)
 
   -- each write of the list before the edit stays, and begins before the one that comes
   stood_before : (v : Op) → Contains ops v → IsWrite v → Contains after v × (v.begin.0 < op.begin.0)
-  stood_before v stands write = elim (before_cases v stands) [
+  stood_before v present write = elim (before_cases v present) [
     | inr gone ↦ absurd (let none = comes.none in cc)
     | inl among ↦
-        let v_stands = in_after v (inl among) in
+        let v_present = in_after v (inl among) in
         elim (cases_lt v.begin.0 op.begin.0) [
-          | inl lt ↦ (v_stands, lt)
+          | inl lt ↦ (v_present, lt)
           | inr le ↦ elim (cases_lt op.begin.0 v.begin.0) [
-            | inl behind ↦ absurd (comes.last v v_stands write behind)
-            | inr ge ↦ absurd (new_other v op among comes.is ((writes_apart claim after after_apart).one v op v_stands op_stands write comes.writes (omega (arith, le, ge))))
+            | inl following ↦ absurd (comes.last v v_present write following)
+            | inr ge ↦ absurd (new_other v op among comes.is ((writes_apart claim after after_apart).one v op v_present op_present write comes.writes (omega (arith, le, ge))))
           ]
         ]
   ]
@@ -148,21 +148,21 @@ module _ (claim : ClaimModel) (ops others after : List Op) (old new : Option Op)
   -- where no write is between n and the one that comes, that one is the first write from n on, and none was before the
   -- edit
   module _ (n : ℕ) (above : n ≤ op.begin.0) (below : (u : Op) → Contains after u → IsWrite u → u.begin.0 < op.begin.0 → u.begin.0 < n) where
-    first_behind : IsFirstWriteOf (BeginsFrom n) after (Some op)
-    first_behind = record {
-      stands = op_stands;
+    first_following : IsFirstWriteOf (BeginsFrom n) after (Some op)
+    first_following = record {
+      present = op_present;
       write = comes.writes;
       fits = above;
-      first = λ v stands write from. elim (cases_lt v.begin.0 op.begin.0) [
-        | inl lt ↦ absurd (let b : v.begin.0 < n = below v stands write lt in omega (arith, b, from))
+      first = λ v present write from. elim (cases_lt v.begin.0 op.begin.0) [
+        | inl lt ↦ absurd (let b : v.begin.0 < n = below v present write lt in omega (arith, b, from))
         | inr le ↦ le
       ];
     }
 
-    none_behind : IsFirstWriteOf (BeginsFrom n) ops None
-    none_behind v stands write from =
-        let (v_stands, lt) = stood_before v stands write in
-        let b : v.begin.0 < n = below v v_stands write lt in omega (arith, b, from)
+    none_after : IsFirstWriteOf (BeginsFrom n) ops None
+    none_after v present write from =
+        let (v_present, lt) = stood_before v present write in
+        let b : v.begin.0 < n = below v v_present write lt in omega (arith, b, from)
 
   -- a cover reaches as far with that write after it as with none
   same_reach : (kind : Kind) (end : Option Moment) → cover_reach kind end None ≡ cover_reach kind end (Some op)
@@ -181,26 +181,26 @@ module _ (claim : ClaimModel) (ops others after : List Op) (old new : Option Op)
 
   by_last : (found : Option Op) → IsLastOf (BeginsBefore op.begin.0) after found → InFrontAlready
   by_last None none =
-      let below : (u : Op) → Contains after u → IsWrite u → u.begin.0 < op.begin.0 → u.begin.0 < 0 = λ u stands write lt. absurd (none u stands write lt) in
+      let below : (u : Op) → Contains after u → IsWrite u → u.begin.0 < op.begin.0 → u.begin.0 < 0 = λ u present write lt. absurd (none u present write lt) in
       let same : initial_item claim None ≡ initial_item claim (Some op) = ap (λ (reach : ℕ). let x : RowItem = record (initial_item claim None) { reach = reach } in x) (same_initial claim.kind) in (
         initial_item claim (Some op),
-        inr (inr (record { next = Some op; next_is = first_behind 0 (omega arith) below; is = refl })),
+        inr (inr (record { next = Some op; next_is = first_following 0 (omega arith) below; is = refl })),
         inr (none, refl),
-        subst (Contains items) same (are.each (initial_item claim None) (inr (inr (record { next = None; next_is = none_behind 0 (omega arith) below; is = refl })))),
+        subst (Contains items) same (are.each (initial_item claim None) (inr (inr (record { next = None; next_is = none_after 0 (omega arith) below; is = refl })))),
       )
   by_last (Some w) last =
       let below : (u : Op) → Contains after u → IsWrite u → u.begin.0 < op.begin.0 → u.begin.0 < suc w.begin.0 =
-      λ u stands write lt. let le : u.begin.0 ≤ w.begin.0 = last.last u stands write lt in omega (arith, le) in
+      λ u present write lt. let le : u.begin.0 ≤ w.begin.0 = last.last u present write lt in omega (arith, le) in
       let same : cover_item claim w None ≡ cover_item claim w (Some op) = ap (λ (reach : ℕ). let x : RowItem = record (cover_item claim w None) { reach = reach } in x) (same_reach claim.kind w.end) in (
         cover_item claim w (Some op),
-        inr (inl (record { write = w; stands = last.stands; writes = last.write; next = Some op; next_is = first_behind (suc w.begin.0) last.fits below; is = refl })),
+        inr (inl (record { write = w; present = last.present; writes = last.write; next = Some op; next_is = first_following (suc w.begin.0) last.fits below; is = refl })),
         inl (w, last, place_of_cover claim after after_apart w (Some op) last.write),
         subst (Contains items) same
-            (are.each (cover_item claim w None) (inr (inl (record { write = w; stands = w_stood; writes = last.write; next = None; next_is = none_behind (suc w.begin.0) last.fits below; is = refl })))),
+            (are.each (cover_item claim w None) (inr (inl (record { write = w; present = w_stood; writes = last.write; next = None; next_is = none_after (suc w.begin.0) last.fits below; is = refl })))),
       )
     where
       w_stood : Contains ops w
-      w_stood = elim (after_cases w last.stands) [
+      w_stood = elim (after_cases w last.present) [
         | inl among ↦ in_before w (inl among)
         | inr came ↦ absurd (let is = comes.is in let same : op ≡ w = cc in let begins : op.begin.0 ≡ w.begin.0 = ap (λ (o : Op). o.begin.0) same in let lt : w.begin.0 < op.begin.0 = last.fits in omega (arith, begins, lt))
       ]
@@ -213,8 +213,8 @@ module _ (claim : ClaimModel) (ops others after : List Op) (old new : Option Op)
       → IsExchanged (optional_item_spot claim old) item items second → IsRenewed left second third → AreItemsInOrder third → IsRenewed None third last
       → (come : Option RowItem) × IsCoverBefore claim after old new come × IsRenewed come third last
   front_stays item left left_is second third last one two order three =
-      let (x, x_is, front, stands) = in_front_already in
-      let in_second : Contains second x = one.kept x stands (subst (λ (o : Option Op). IsAway (optional_item_spot claim o) x) (sym comes.none) tt) in
+      let (x, x_is, front, present) = in_front_already in
+      let in_second : Contains second x = one.kept x present (subst (λ (o : Option Op). IsAway (optional_item_spot claim o) x) (sym comes.none) tt) in
       let in_third : Contains third x = elim (at_or_away left x) [
         | inr away ↦ two.kept x in_second away
         | inl at ↦

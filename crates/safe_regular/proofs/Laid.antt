@@ -48,16 +48,16 @@ old_not_away claim old x y is y_laid e away =
 
 -- an item is at the spot of the operation that goes, if that has one
 pub place_is_taken : (claim : ClaimModel) (ops : List Op) (old : Option Op) (apart : AreOneWriters claim ops) → ((o : Op) → old ≡ Some o → Contains ops o) → (items : List RowItem) → AreItemsOf claim ops items → HasItemAt (optional_item_spot claim old) items
-place_is_taken claim ops None apart stands items are = tt
-place_is_taken claim ops (Some o) apart stands items are = elim (cases_Bool (is_write o)) [
+place_is_taken claim ops None apart present items are = tt
+place_is_taken claim ops (Some o) apart present items are = elim (cases_Bool (is_write o)) [
   | inl write ↦
       let (next, next_is) = some_first (suc o.begin.0) ops in
       let y = cover_item claim o next in
-      at y (are.each y (inr (inl (record { write = o; stands = stands o refl; writes = write; next = next; next_is = next_is; is = refl })))) (place_of_cover claim ops apart o next write)
+      at y (are.each y (inr (inl (record { write = o; present = present o refl; writes = write; next = next; next_is = next_is; is = refl })))) (place_of_cover claim ops apart o next write)
   | inr reads ↦ elim (cases_Bool (is_judged_read o)) [
     | inl judged ↦
         let y = read_item claim o in
-        at y (are.each y (inl (record { read = o; stands = stands o refl; judged = judged; is = refl }))) (place_of_read claim ops apart o judged)
+        at y (are.each y (inl (record { read = o; present = present o refl; judged = judged; is = refl }))) (place_of_read claim ops apart o judged)
     | inr neither_one ↦ rw (neither (is_write o) (is_judged_read o) reads neither_one) tt
   ]
 ]
@@ -76,17 +76,17 @@ pub place_is_free : (claim : ClaimModel) (ops others after : List Op) (old new :
     (item : Option RowItem) (item_is : IsItemOf claim after new item) (items : List RowItem) (are : AreItemsOf claim ops items)
     → IsFreeFor (optional_item_spot claim old) item items
 place_is_free claim ops others after old new before_apart after_apart before_cases in_after new_other None item_is items are = tt
-place_is_free claim ops others after old new before_apart after_apart before_cases in_after new_other (Some x) item_is items are = λ y stands away.
+place_is_free claim ops others after old new before_apart after_apart before_cases in_after new_other (Some x) item_is items are = λ y present away.
     let (x_is, of_op) = item_is.is x refl in
     let (o, is, o_laid, at) = of_op in
-    let o_stands = in_after o (inr is) in
-    elim (of_which claim ops before_apart y (are.only y stands)) [
-      | inl initial ↦ subst (λ (s : Spot). same_spot s (spot_of_item x) ≡ false) (sym initial) (subst (λ (s : Spot). same_spot (initial_place claim) s ≡ false) (sym at) (initial_away claim after after_apart o o_stands))
+    let o_present = in_after o (inr is) in
+    elim (of_which claim ops before_apart y (are.only y present)) [
+      | inl initial ↦ subst (λ (s : Spot). same_spot s (spot_of_item x) ≡ false) (sym initial) (subst (λ (s : Spot). same_spot (initial_place claim) s ≡ false) (sym at) (initial_away claim after after_apart o o_present))
       | inr of_other ↦
-          let (a, a_stands, a_laid, a_at) = of_other in
-          elim (before_cases a a_stands) [
+          let (a, a_present, a_laid, a_at) = of_other in
+          elim (before_cases a a_present) [
             | inl among ↦ subst (λ (s : Spot). same_spot s (spot_of_item x) ≡ false) (sym a_at) (subst (λ (s : Spot). same_spot (place_in claim a) s ≡ false) (sym at)
-                (op_away claim after after_apart a o (in_after a (inl among)) o_stands a_laid o_laid (new_other a o among is)))
+                (op_away claim after after_apart a o (in_after a (inl among)) o_present a_laid o_laid (new_other a o among is)))
             | inr gone ↦ absurd (old_not_away claim old y a gone a_laid a_at away)
           ]
     ]
@@ -141,10 +141,10 @@ module _ (claim : ClaimModel) (ops others after : List Op) (old new : Option Op)
   front_is w among write x e o above y front below = elim front [
     | inl last ↦
         let (v, v_is, v_at) = last in
-        let w_stands = in_after w (inl among) in
-        let le : w.begin.0 ≤ v.begin.0 = v_is.last w w_stands write above in
-        let ge : v.begin.0 < suc w.begin.0 = below v v_is.stands v_is.write v_is.fits in
-        let same : w ≡ v = (writes_apart claim after after_apart).one w v w_stands v_is.stands write v_is.write (omega (arith, le, ge)) in
+        let w_present = in_after w (inl among) in
+        let le : w.begin.0 ≤ v.begin.0 = v_is.last w w_present write above in
+        let ge : v.begin.0 < suc w.begin.0 = below v v_is.present v_is.write v_is.fits in
+        let same : w ≡ v = (writes_apart claim after after_apart).one w v w_present v_is.present write v_is.write (omega (arith, le, ge)) in
         e ∙ ap (place_in claim) same ∙ sym v_at
     | inr none ↦ absurd (none.0 w (in_after w (inl among)) write above)
   ]
@@ -153,7 +153,7 @@ module _ (claim : ClaimModel) (ops others after : List Op) (old new : Option Op)
   initial_front_is : (x : RowItem) → spot_of_item x ≡ initial_place claim → (o : Op) → (y : RowItem) → IsInFront claim after o.begin.0 y
       → ((u : Op) → Contains after u → IsWrite u → u.begin.0 < o.begin.0 → u.begin.0 < 0) → spot_of_item x ≡ spot_of_item y
   initial_front_is x e o y front below = elim front [
-    | inl last ↦ let (v, v_is, v_at) = last in let lt : v.begin.0 < 0 = below v v_is.stands v_is.write v_is.fits in absurd (omega (arith, lt))
+    | inl last ↦ let (v, v_is, v_at) = last in let lt : v.begin.0 < 0 = below v v_is.present v_is.write v_is.fits in absurd (omega (arith, lt))
     | inr none ↦ e ∙ sym none.1
   ]
 
@@ -176,7 +176,7 @@ module _ (claim : ClaimModel) (ops others after : List Op) (old new : Option Op)
       where
         by_old : (z : Option Op) → old ≡ z → HasWriteAt z o.begin.0 → ⊥
         by_old None old_is at = at
-        by_old (Some p) old_is at = old_apart from_left p old_is at.0 (subst (λ k. n ≤ k) (sym at.1) above) (λ u stands write lt. below u stands write (subst (λ k. u.begin.0 < k) at.1 lt))
+        by_old (Some p) old_is at = old_apart from_left p old_is at.0 (subst (λ k. n ≤ k) (sym at.1) above) (λ u present write lt. below u present write (subst (λ k. u.begin.0 < k) at.1 lt))
 
   -- where values have no rows the reach of a cover does not depend on the next write
   any_reach : (kind : Kind) → has_rows kind ≡ false → (end : Option Moment) (m n : Option Op) → cover_reach kind end m ≡ cover_reach kind end n
@@ -223,17 +223,17 @@ module _ (claim : ClaimModel) (ops others after : List Op) (old new : Option Op)
 
   -- an item of before the edit that was not rebuilt is an item after it
   stays_item : (x : RowItem) → IsOperationItem claim ops x → IsAway (optional_item_spot claim old) x → IsAway (place_of_some left) x → IsAway (place_of_some come) x → IsOperationItem claim after x
-  stays_item x (inl is) from_old _ _ = elim (before_cases is.read is.stands) [
-    | inl among ↦ inl (record { read = is.read; stands = in_after is.read (inl among); judged = is.judged; is = is.is })
+  stays_item x (inl is) from_old _ _ = elim (before_cases is.read is.present) [
+    | inl among ↦ inl (record { read = is.read; present = in_after is.read (inl among); judged = is.judged; is = is.is })
     | inr gone ↦ absurd (old_not_away claim old x is.read gone (inr is.judged) (ap spot_of_item is.is ∙ place_of_read claim ops before_apart is.read is.judged) from_old)
   ]
   stays_item x (inr (inl is)) from_old from_left from_come =
       let w = is.write in
       let e : spot_of_item x ≡ place_in claim w = ap spot_of_item is.is ∙ place_of_cover claim ops before_apart w is.next is.writes in
-      elim (before_cases w is.stands) [
+      elim (before_cases w is.present) [
         | inl among ↦
             let (then, then_is, same) = next_then x from_left from_come (suc w.begin.0) (cover_item claim w) (λ none p q. same_cover none w p q) (front_is w among is.writes x e) is.next is.next_is in
-            inr (inl (record { write = w; stands = in_after w (inl among); writes = is.writes; next = then; next_is = then_is; is = is.is ∙ same }))
+            inr (inl (record { write = w; present = in_after w (inl among); writes = is.writes; next = then; next_is = then_is; is = is.is ∙ same }))
         | inr gone ↦ absurd (old_not_away claim old x w gone (inl is.writes) e from_old)
       ]
   stays_item x (inr (inr is)) from_old from_left from_come =
@@ -266,17 +266,17 @@ module _ (claim : ClaimModel) (ops others after : List Op) (old new : Option Op)
   stays_put : (x : RowItem) → IsOperationItem claim after x → IsAway (place_of_some left) x → IsAway (place_of_some come) x → Contains second x
   stays_put x (inl is) _ _ =
       let e : spot_of_item x ≡ place_in claim is.read = ap spot_of_item is.is ∙ place_of_read claim after after_apart is.read is.judged in
-      elim (after_cases is.read is.stands) [
-        | inl among ↦ one.kept x (are.each x (inl (record { read = is.read; stands = in_before is.read (inl among); judged = is.judged; is = is.is }))) (away_from_old x is.read among (inr is.judged) e)
+      elim (after_cases is.read is.present) [
+        | inl among ↦ one.kept x (are.each x (inl (record { read = is.read; present = in_before is.read (inl among); judged = is.judged; is = is.is }))) (away_from_old x is.read among (inr is.judged) e)
         | inr came ↦ new_put x is.read (inl is) came (inr is.judged) e
       ]
   stays_put x (inr (inl is)) from_left from_come =
       let w = is.write in
       let e : spot_of_item x ≡ place_in claim w = ap spot_of_item is.is ∙ place_of_cover claim after after_apart w is.next is.writes in
-      elim (after_cases w is.stands) [
+      elim (after_cases w is.present) [
         | inl among ↦
             let (was, was_is, same) = next_was x from_left from_come (suc w.begin.0) (cover_item claim w) (λ none p q. same_cover none w p q) (front_is w among is.writes x e) is.next is.next_is in
-            one.kept x (are.each x (inr (inl (record { write = w; stands = in_before w (inl among); writes = is.writes; next = was; next_is = was_is; is = is.is ∙ same }))))
+            one.kept x (are.each x (inr (inl (record { write = w; present = in_before w (inl among); writes = is.writes; next = was; next_is = was_is; is = is.is ∙ same }))))
             (away_from_old x w among (inl is.writes) e)
         | inr came ↦ new_put x w (inr (inl is)) came (inl is.writes) e
       ]
@@ -292,28 +292,28 @@ module _ (claim : ClaimModel) (ops others after : List Op) (old new : Option Op)
         let (next, next_is) = some_first 0 ops in
         let y = initial_item claim next in
         (y, one.kept y (are.each y (inr (inr (record { next = next; next_is = next_is; is = refl })))) (initial_from_old y refl), sym initial)
-    | inr of_op ↦ let (o, o_stands, o_laid, e) = of_op in elim (after_cases o o_stands) [
+    | inr of_op ↦ let (o, o_present, o_laid, e) = of_op in elim (after_cases o o_present) [
       | inr came ↦ (x, new_put x o x_is came o_laid e, refl)
       | inl among ↦ elim o_laid [
         | inl write ↦
             let (next, next_is) = some_first (suc o.begin.0) ops in
             let y = cover_item claim o next in
             let at : spot_of_item y ≡ place_in claim o = place_of_cover claim ops before_apart o next write in
-            (y, one.kept y (are.each y (inr (inl (record { write = o; stands = in_before o (inl among); writes = write; next = next; next_is = next_is; is = refl })))) (away_from_old y o among (inl write) at), at ∙ sym e)
+            (y, one.kept y (are.each y (inr (inl (record { write = o; present = in_before o (inl among); writes = write; next = next; next_is = next_is; is = refl })))) (away_from_old y o among (inl write) at), at ∙ sym e)
         | inr judged ↦
             let y = read_item claim o in
             let at : spot_of_item y ≡ place_in claim o = place_of_read claim ops before_apart o judged in
-            (y, one.kept y (are.each y (inl (record { read = o; stands = in_before o (inl among); judged = judged; is = refl }))) (away_from_old y o among (inr judged) at), at ∙ sym e)
+            (y, one.kept y (are.each y (inl (record { read = o; present = in_before o (inl among); judged = judged; is = refl }))) (away_from_old y o among (inr judged) at), at ∙ sym e)
       ]
     ]
   ]
 
-  stands_then : (x : RowItem) → IsOperationItem claim after x → (y : RowItem) × Contains third y × (spot_of_item y ≡ spot_of_item x)
-  stands_then x x_is =
-      let (y, y_stands, e) = stood x x_is in
+  present_then : (x : RowItem) → IsOperationItem claim after x → (y : RowItem) × Contains third y × (spot_of_item y ≡ spot_of_item x)
+  present_then x x_is =
+      let (y, y_present, e) = stood x x_is in
       elim (at_or_away left y) [
-        | inr away ↦ (y, two.kept y y_stands away, e)
-        | inl at ↦ let (z, z_at, t) = at in (z, two.put z y z_at y_stands t, sym (same_is (spot_of_item y) (spot_of_item z) t) ∙ e)
+        | inr away ↦ (y, two.kept y y_present away, e)
+        | inl at ↦ let (z, z_at, t) = at in (z, two.put z y z_at y_present t, sym (same_is (spot_of_item y) (spot_of_item z) t) ∙ e)
       ]
 
   pub each_item : (x : RowItem) → IsOperationItem claim after x → Contains last x
@@ -322,15 +322,15 @@ module _ (claim : ClaimModel) (ops others after : List Op) (old new : Option Op)
         let (y, y_at, t) = at in
         let e : spot_of_item x ≡ spot_of_item y = same_is (spot_of_item x) (spot_of_item y) t in
         let equal : x ≡ y = items_told claim after after_apart x y x_is (come_is.is y y_at) e in
-        let (z, z_stands, z_at) = stands_then x x_is in
-        subst (Contains last) (sym equal) (three.put y z y_at z_stands (subst (λ (s : Spot). same_spot (spot_of_item z) s ≡ true) (z_at ∙ e) (same_itself (spot_of_item z))))
+        let (z, z_present, z_at) = present_then x x_is in
+        subst (Contains last) (sym equal) (three.put y z y_at z_present (subst (λ (s : Spot). same_spot (spot_of_item z) s ≡ true) (z_at ∙ e) (same_itself (spot_of_item z))))
     | inr from_come ↦ elim (at_or_away left x) [
       | inl at ↦
           let (y, y_at, t) = at in
           let e : spot_of_item x ≡ spot_of_item y = same_is (spot_of_item x) (spot_of_item y) t in
           let equal : x ≡ y = items_told claim after after_apart x y x_is (left_is.is y y_at) e in
-          let (z, z_stands, z_at) = stood x x_is in
-          let third_has = two.put y z y_at z_stands (subst (λ (s : Spot). same_spot (spot_of_item z) s ≡ true) (z_at ∙ e) (same_itself (spot_of_item z))) in
+          let (z, z_present, z_at) = stood x x_is in
+          let third_has = two.put y z y_at z_present (subst (λ (s : Spot). same_spot (spot_of_item z) s ≡ true) (z_at ∙ e) (same_itself (spot_of_item z))) in
           three.kept x (subst (Contains third) (sym equal) third_has) from_come
       | inr from_left ↦ three.kept x (two.kept x (stays_put x x_is from_left from_come) from_left) from_come
     ]

@@ -55,25 +55,25 @@ module _ (claim : ClaimModel) (ops : List Op) (apart : AreOneWriters claim ops) 
     in_ops : (o : Op) → Contains front o → Contains ops o
     in_ops o h = subst (λ (l : List Op). Contains l o) (sym all) (Contains-append_left front (op ∷ rest) o h)
 
-    pub op_stands : Contains ops op
-    op_stands = subst (λ (l : List Op). Contains l op) (sym all) (Contains-append_right front (op ∷ rest) op (here op rest))
+    pub op_present : Contains ops op
+    op_present = subst (λ (l : List Op). Contains l op) (sym all) (Contains-append_right front (op ∷ rest) op (here op rest))
 
     -- the spot of the next operation's item is free
     pub next_is_free : (item : Option RowItem) → IsItemOf claim ops (Some op) item → IsFreeFor None item line.items
     next_is_free None item_is = tt
-    next_is_free (Some x) item_is = λ y stands _.
+    next_is_free (Some x) item_is = λ y present _.
         let (x_is, of_op) = item_is.is x refl in
         let (o, e, o_laid, at) = of_op in
         let one : op ≡ o = cc in
         let x_at : spot_of_item x ≡ place_in claim op = at ∙ ap (place_in claim) (sym one) in
         let op_laid : IsLaid op = subst IsLaid (sym one) o_laid in
-        elim (laid.only y stands).1 [
-          | inl initial ↦ subst (λ (s : Spot). same_spot s (spot_of_item x) ≡ false) (sym initial) (subst (λ (s : Spot). same_spot (initial_place claim) s ≡ false) (sym x_at) (initial_away claim ops apart op op_stands))
+        elim (laid.only y present).1 [
+          | inl initial ↦ subst (λ (s : Spot). same_spot s (spot_of_item x) ≡ false) (sym initial) (subst (λ (s : Spot). same_spot (initial_place claim) s ≡ false) (sym x_at) (initial_away claim ops apart op op_present))
           | inr of_other ↦
               let (a, a_in, a_laid, a_at) = of_other in
               subst (λ (s : Spot). same_spot s (spot_of_item x) ≡ false) (sym a_at)
               (subst (λ (s : Spot). same_spot (place_in claim a) s ≡ false) (sym x_at)
-              (op_away claim ops apart a op (in_ops a a_in) op_stands a_laid op_laid (not_in_front front op rest (subst HasDistinctIds all apart.kept.ids) a a_in)))
+              (op_away claim ops apart a op (in_ops a a_in) op_present a_laid op_laid (not_in_front front op rest (subst HasDistinctIds all apart.kept.ids) a a_in)))
         ]
 
     -- there is room for the next operation's item

@@ -18,5 +18,5 @@ kept test (a ∷ ops) op (suc k, lt, same) e = by_cases (test a) (kept test ops 
     by_cases true h = (suc h.0, omega (arith, h.1), h.2)
     by_cases false h = h
 
-pub kept_stands : (test : Op → Bool) (ops : List Op) (op : Op) → Contains (filter test ops) op → Contains ops op
-kept_stands test ops op h = All-contains (Contains ops) (filter test ops) op (All-filter test (Contains ops) ops (All-contains_itself ops)) h
+pub kept_present : (test : Op → Bool) (ops : List Op) (op : Op) → Contains (filter test ops) op → Contains ops op
+kept_present test ops op h = All-contains (Contains ops) (filter test ops) op (All-filter test (Contains ops) ops (All-contains_itself ops)) h

@@ -9,20 +9,20 @@ use Rattle.safe_regular.specs.LookUp.{IsLastWrite, IsFirstWrite, IsLastOf, IsFir
 -- where a write has the property, one is found, and it begins no earlier
 pub last_found : (P : Op → Type 0) (ops : List Op) (found : Option Op) → IsLastOf P ops found → (w : Op) → Contains ops w → IsWrite w → P w
     → (v : Op) × (found ≡ Some v) × IsLastWrite P ops v × (w.begin.0 ≤ v.begin.0)
-last_found P ops None h w stands write fits = absurd (h w stands write fits)
-last_found P ops (Some v) h w stands write fits = (v, refl, h, h.last w stands write fits)
+last_found P ops None h w present write fits = absurd (h w present write fits)
+last_found P ops (Some v) h w present write fits = (v, refl, h, h.last w present write fits)
 
 -- where a write has the property, one is found, and it begins no later
 pub first_found : (P : Op → Type 0) (ops : List Op) (found : Option Op) → IsFirstWriteOf P ops found → (w : Op) → Contains ops w → IsWrite w → P w
     → (v : Op) × (found ≡ Some v) × IsFirstWrite P ops v × (v.begin.0 ≤ w.begin.0)
-first_found P ops None h w stands write fits = absurd (h w stands write fits)
-first_found P ops (Some v) h w stands write fits = (v, refl, h, h.first w stands write fits)
+first_found P ops None h w present write fits = absurd (h w present write fits)
+first_found P ops (Some v) h w present write fits = (v, refl, h, h.first w present write fits)
 
-pub last_stands : (P : Op → Type 0) (ops : List Op) (found : Option Op) → IsLastOf P ops found → (v : Op) → found ≡ Some v → Contains ops v
-last_stands P ops found h v e = let is : IsLastWrite P ops v = subst (λ (o : Option Op). IsLastOf P ops o) e h in is.stands
+pub last_present : (P : Op → Type 0) (ops : List Op) (found : Option Op) → IsLastOf P ops found → (v : Op) → found ≡ Some v → Contains ops v
+last_present P ops found h v e = let is : IsLastWrite P ops v = subst (λ (o : Option Op). IsLastOf P ops o) e h in is.present
 
-pub first_stands : (P : Op → Type 0) (ops : List Op) (found : Option Op) → IsFirstWriteOf P ops found → (v : Op) → found ≡ Some v → Contains ops v
-first_stands P ops found h v e = let is : IsFirstWrite P ops v = subst (λ (o : Option Op). IsFirstWriteOf P ops o) e h in is.stands
+pub first_is_present : (P : Op → Type 0) (ops : List Op) (found : Option Op) → IsFirstWriteOf P ops found → (v : Op) → found ≡ Some v → Contains ops v
+first_is_present P ops found h v e = let is : IsFirstWrite P ops v = subst (λ (o : Option Op). IsFirstWriteOf P ops o) e h in is.present
 
 -- the optional first element, where it is there, is in the list
 pub in_front : (o : Option Op) (xs : List Op) (w : Op) → o ≡ Some w → Contains (cons_option o xs) w

@@ -40,12 +40,12 @@ module _ (claim : ClaimModel) (ops : List Op) (apart : AreSequential ops) (r : O
     right_here same = elim (either_way (precedes w r) (Decides-precedes w r)) [
       | inl before ↦ inr (inl (
         w,
-        record { stands = is.stands; write = is.write; before = before; last = all_from (λ v. IsWrite v → Precedes v r → v.begin.0 ≤ w.begin.0) ops none_later },
+        record { present = is.present; write = is.write; before = before; last = all_from (λ v. IsWrite v → Precedes v r → v.begin.0 ≤ w.begin.0) ops none_later },
         same,
       ))
       | inr over ↦
           let lt : w.begin.0 < m = is.fits in
-          inl (is.stands.0, w, is.stands.1, is.stands.2, (is.write, (over, among.not_over w (omega (arith, lt, le))), same))
+          inl (is.present.0, w, is.present.1, is.present.2, (is.write, (over, among.not_over w (omega (arith, lt, le))), same))
     ]
 
     -- r is wrong where it has another value and w precedes it
@@ -54,21 +54,21 @@ module _ (claim : ClaimModel) (ops : List Op) (apart : AreSequential ops) (r : O
         let sv : Contains ops any.1 = (any.0, any.2, any.3) in
         let reached = among.reached any.1 sv any.4.0 any.4.1.1 in
         elim (cases_lt any.1.begin.0 m) [
-          | inl lt ↦ any.4.1.0 (precedes_with ops apart any.1 w r sv is.stands any.4.0 is.write (is.last any.1 sv any.4.0 lt) before)
+          | inl lt ↦ any.4.1.0 (precedes_with ops apart any.1 w r sv is.present any.4.0 is.write (is.last any.1 sv any.4.0 lt) before)
           | inr ge ↦ (passed any.1 sv any.4.0 ge reached).1 any.4.2
         ]
     wrong_here other before (inr (inl l)) =
-        let up = none_later l.0 l.1.stands l.1.write l.1.before in
-        let down : w.begin.0 ≤ l.0.begin.0 = All-contains (λ v. IsWrite v → Precedes v r → v.begin.0 ≤ l.0.begin.0) ops w l.1.last is.stands is.write before in
-        other (l.2 ∙ ap (λ (o : Op). value_of o.act) (apart.one l.0 w l.1.stands is.stands l.1.write is.write (omega (arith, up, down))))
-    wrong_here other before (inr (inr h)) = All-contains (λ v. IsWrite v → ¬ Precedes v r) ops w h.0 is.stands is.write before
+        let up = none_later l.0 l.1.present l.1.write l.1.before in
+        let down : w.begin.0 ≤ l.0.begin.0 = All-contains (λ v. IsWrite v → Precedes v r → v.begin.0 ≤ l.0.begin.0) ops w l.1.last is.present is.write before in
+        other (l.2 ∙ ap (λ (o : Op). value_of o.act) (apart.one l.0 w l.1.present is.present l.1.write is.write (omega (arith, up, down))))
+    wrong_here other before (inr (inr h)) = All-contains (λ v. IsWrite v → ¬ Precedes v r) ops w h.0 is.present is.write before
 
     -- w is passed where r has another value and w does not precede r
     passed_here : value_of r.act ≢ value_of w.act → ¬ Precedes w r → ArePassed ops r w.begin.0
     passed_here other not v sv wv ge reached = elim (cases_lt v.begin.0 m) [
       | inl lt ↦
           let up = is.last v sv wv lt in
-          let same : w ≡ v = apart.one w v is.stands sv is.write wv (omega (arith, up, ge)) in
+          let same : w ≡ v = apart.one w v is.present sv is.write wv (omega (arith, up, ge)) in
           ((λ before. not (subst (λ (o : Op). Precedes o r) (sym same) before)), (λ e. other (e ∙ ap (λ (o : Op). value_of o.act) (sym same))))
       | inr late ↦ passed v sv wv late reached
     ]
@@ -91,8 +91,8 @@ module _ (claim : ClaimModel) (ops : List Op) (apart : AreSequential ops) (r : O
           | inr ge ↦ (passed any.1 sv any.4.0 ge (among.reached any.1 sv any.4.0 any.4.1.1)).1 any.4.2
         ]
     wrong_first other (inr (inl l)) = elim (cases_lt l.0.begin.0 m) [
-      | inl lt ↦ none l.0 l.1.stands l.1.write lt
-      | inr ge ↦ (passed l.0 l.1.stands l.1.write ge (reached_by l.0 l.1.stands l.1.write l.1.before)).0 l.1.before
+      | inl lt ↦ none l.0 l.1.present l.1.write lt
+      | inr ge ↦ (passed l.0 l.1.present l.1.write ge (reached_by l.0 l.1.present l.1.write l.1.before)).0 l.1.before
     ]
     wrong_first other (inr (inr h)) = other h.1
 
@@ -125,7 +125,7 @@ module _ (claim : ClaimModel) (ops : List Op) (apart : AreSequential ops) (r : O
   ]
     where
       near : IsLastWrite (IsNear Safe r) ops w
-      near = record { stands = is.stands; write = is.write; fits = (refl, is.fits); last = λ v sv wv fits. is.last v sv wv fits.1 }
+      near = record { present = is.present; write = is.write; fits = (refl, is.fits); last = λ v sv wv fits. is.last v sv wv fits.1 }
 
       chosen : is_allowed_here ≡ true → is_wrong_by claim r (Some w) ≡ not (same_value (value_of r.act) (value_of w.act)) && precedes w r
       chosen t = rw t refl
@@ -134,9 +134,9 @@ module _ (claim : ClaimModel) (ops : List Op) (apart : AreSequential ops) (r : O
       refused f = rw f refl
 
 -- the verdict by the writes that were looked at is `is_wrong_read`
-module _ (claim : ClaimModel) (ops : List Op) (apart : AreOneWriters claim ops) (r : Op) (stands : Contains ops r) (judged : IsJudgedRead r) where
+module _ (claim : ClaimModel) (ops : List Op) (apart : AreOneWriters claim ops) (r : Op) (present : Contains ops r) (judged : IsJudgedRead r) where
   among_them : IsReadAmong ops r
-  among_them = read_among claim ops apart r stands judged
+  among_them = read_among claim ops apart r present judged
 
   -- nothing is passed at first
   pub looked_up_first : (last : Option Op) → IsLastOf (BeginsBefore (end_number r)) ops last → IsLookedUp ops r last

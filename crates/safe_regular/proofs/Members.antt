@@ -37,13 +37,13 @@ NoOverlap v w = IsWrite v → IsWrite w → ¬ Overlaps v w
 -- the writes follow one another, in a list with distinct moments, ends after beginnings and no overlapping writes
 pub are_apart : (ops : List Op) → HasDistinctMoments ops → HasEndsAfterBeginnings ops → HasNoOverlappingWrites ops → AreSequential ops
 are_apart ops moments ends over = record {
-  proper = λ w stands write. proper w stands;
+  proper = λ w present write. proper w present;
   apart = apart;
   one = λ v w sv sw wv ww. begin_apart ops moments v w sv sw;
 }
   where
     proper : (w : Op) → Contains ops w → EndsAfterBeginning w
-    proper w stands = All-contains EndsAfterBeginning ops w ends stands
+    proper w present = All-contains EndsAfterBeginning ops w ends present
 
     apart : (v w : Op) → Contains ops v → Contains ops w → IsWrite v → IsWrite w → v.begin.0 < w.begin.0 → Precedes v w
     apart v w sv sw wv ww lt = by_cases (one_or_so NoOverlap (λ a b none wb wa (q, p). none wa wb (p, q)) ops over v w sv sw) (either_way (precedes v w) (Decides-precedes v w)) (either_way (precedes w v) (Decides-precedes w v))

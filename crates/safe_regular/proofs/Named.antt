@@ -40,24 +40,24 @@ module _ (claim : ClaimModel) (ops : List Op) (apart : AreOneWriters claim ops) 
 
   -- a read has a last cover before it, and is uncovered by that exactly where it is wrong
   at_cover : (r : Op) → Contains ops r → IsJudgedRead r → (c : Option RowItem) × IsCoverAt items (spot_of_item (read_item claim r)) c × (is_uncovered (option_map cover_of c) (read_item claim r) ≡ is_wrong_read claim ops r)
-  at_cover r stands judged = let (c, c_is) = told.cover (spot_of_item (read_item claim r)) in (c, c_is, covered claim ops apart items are r stands judged c c_is)
+  at_cover r present judged = let (c, c_is) = told.cover (spot_of_item (read_item claim r)) in (c, c_is, covered claim ops apart items are r present judged c c_is)
 
-  item_stands : (r : Op) → Contains ops r → IsJudgedRead r → Contains items (read_item claim r)
-  item_stands r stands judged = are.each (read_item claim r) (inl (record { read = r; stands = stands; judged = judged; is = refl }))
+  item_present : (r : Op) → Contains ops r → IsJudgedRead r → Contains items (read_item claim r)
+  item_present r present judged = are.each (read_item claim r) (inl (record { read = r; present = present; judged = judged; is = refl }))
 
   none_wrong : is_some_uncovered None items ≡ false → (r : Op) → Contains ops r → ¬ IsTrue (is_wrong_read claim ops r)
-  none_wrong none r stands wrong =
+  none_wrong none r present wrong =
       let judged = judged_of r wrong in
-      let (c, c_is, e) = at_cover r stands judged in
-      both_ways (is_wrong_read claim ops r) (sym e ∙ told.none none (read_item claim r) c (item_stands r stands judged) refl c_is) wrong
+      let (c, c_is, e) = at_cover r present judged in
+      both_ways (is_wrong_read claim ops r) (sym e ∙ told.none none (read_item claim r) c (item_present r present judged) refl c_is) wrong
 
   pub none_named : is_some_uncovered None items ≡ false → first_wrong claim ops ≡ None
   none_named none = first_wrong_is claim ops (distinct_ends ops apart.kept.moments) None (none_wrong none)
 
   -- a read in the tree is one of the operations
   which_read : (x : RowItem) → Contains items x → x.covers ≡ false → (r : Op) × Contains ops r × IsJudgedRead r × (x ≡ read_item claim r)
-  which_read x stands reads = elim (are.only x stands) [
-    | inl is ↦ (is.read, is.stands, is.judged, is.is)
+  which_read x present reads = elim (are.only x present) [
+    | inl is ↦ (is.read, is.present, is.judged, is.is)
     | inr cover ↦ elim cover [
       | inl is ↦ absurd (let e : x.covers ≡ true = ap (λ (y : RowItem). y.covers) is.is in cc)
       | inr is ↦ absurd (let e : x.covers ≡ true = ap (λ (y : RowItem). y.covers) is.is in cc)
@@ -72,19 +72,19 @@ module _ (claim : ClaimModel) (ops : List Op) (apart : AreOneWriters claim ops) 
 
   one_named : (x : RowItem) → first_uncovered None items ≡ Some x → (r : Op) × (op_of ops x.id ≡ Some r) × (first_wrong claim ops ≡ Some r)
   one_named x found =
-      let (stands, reads, short, first) = told.found x found in
-      let (r, h, j, is) = which_read x stands reads in
+      let (present, reads, short, first) = told.found x found in
+      let (r, h, j, is) = which_read x present reads in
       let (c, c_is, e) = at_cover r h j in
       let at : spot_of_item (read_item claim r) ≡ spot_of_item x = ap spot_of_item (sym is) in (
         r,
         ap (λ (y : RowItem). op_of ops y.id) is ∙ found_by_id ops r apart.kept.ids h,
         first_wrong_is claim ops (distinct_ends ops apart.kept.moments) (Some r) (record {
-          stands = h;
+          present = h;
           wrong = sym e ∙ ap (is_uncovered (option_map cover_of c)) (sym is) ∙ short c (subst (λ (s : Spot). IsCoverAt items s c) at c_is);
           first = λ other k wrong.
               let judged = judged_of other wrong in
               let (d, d_is, f) = at_cover other k judged in
-              let le = first (read_item claim other) d (item_stands other k judged) refl d_is (f ∙ wrong) in
+              let le = first (read_item claim other) d (item_present other k judged) refl d_is (f ∙ wrong) in
               earlier_end r other h k (subst (λ (y : RowItem). y.moment.0 ≤ (read_item claim other).moment.0) is le);
         }),
       )

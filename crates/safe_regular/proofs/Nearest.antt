@@ -64,32 +64,32 @@ between : (v : Value) (m n : Moment) (key : Spot) → StandsBefore key (spot_of 
 between v m n key h k = value_exact key.value v (tied (value_cmp key.value v) (nat_cmp key.moment.0 n.0) (nat_cmp key.moment.0 m.0) h k)
 
 -- in one row the spot of the lesser moment is before the other
-stands_if : (u v : Value) (a b : Moment) → u ≡ v → a.0 < b.0 → StandsBefore (spot_of u a) (spot_of v b)
-stands_if u v a b e lt = subst (λ (x : Value). StandsBefore (spot_of x a) (spot_of v b)) (sym e) (at_value v b a ∙ nat_before a.0 b.0 lt)
+present_if : (u v : Value) (a b : Moment) → u ≡ v → a.0 < b.0 → StandsBefore (spot_of u a) (spot_of v b)
+present_if u v a b e lt = subst (λ (x : Value). StandsBefore (spot_of x a) (spot_of v b)) (sym e) (at_value v b a ∙ nat_before a.0 b.0 lt)
 
-is_if_stands : (u v : Value) (a b : Moment) → u ≡ v → StandsBefore (spot_of u a) (spot_of v b) → a.0 < b.0
-is_if_stands u v a b e h =
+is_if_present : (u v : Value) (a b : Moment) → u ≡ v → StandsBefore (spot_of u a) (spot_of v b) → a.0 < b.0
+is_if_present u v a b e h =
     let same : StandsBefore (spot_of v a) (spot_of v b) = subst (λ (x : Value). StandsBefore (spot_of x a) (spot_of v b)) e h in
     ranked a.0 b.0 Less (sym same ∙ at_value v b a)
 
 -- c is the last cover before x, and d a cover before x in the row of x
-module _ (items : List RowItem) (x c : RowItem) (is : IsLastCover items (spot_of_item x) c) (d : RowItem) (stands : Contains items d) (covers : IsTrue d.covers) (row : row_of d ≡ row_of x) (before : d.moment.0 < x.moment.0) where
+module _ (items : List RowItem) (x c : RowItem) (is : IsLastCover items (spot_of_item x) c) (d : RowItem) (present : Contains items d) (covers : IsTrue d.covers) (row : row_of d ≡ row_of x) (before : d.moment.0 < x.moment.0) where
   d_before : StandsBefore (spot_of_item d) (spot_of_item x)
-  d_before = stands_if (row_of d) (row_of x) d.moment x.moment row before
+  d_before = present_if (row_of d) (row_of x) d.moment x.moment row before
 
   -- c is no earlier than d, if c is in that row
   none_later : row_of c ≡ row_of x → d.moment.0 ≤ c.moment.0
   none_later same = by_cases (cases_lt c.moment.0 d.moment.0)
     where
       by_cases : (c.moment.0 < d.moment.0) ⊎ (d.moment.0 ≤ c.moment.0) → d.moment.0 ≤ c.moment.0
-      by_cases (inl lt) = absurd (is.last d stands covers d_before (stands_if (row_of c) (row_of d) c.moment d.moment (same ∙ sym row) lt))
+      by_cases (inl lt) = absurd (is.last d present covers d_before (present_if (row_of c) (row_of d) c.moment d.moment (same ∙ sym row) lt))
       by_cases (inr le) = le
 
   -- c is in that row
   row_same : row_of c ≡ row_of x
   row_same =
       between (row_of x) d.moment x.moment (spot_of_item c) is.before
-      (λ h. is.last d stands covers d_before (subst (λ (v : Value). StandsBefore (spot_of_item c) (spot_of v d.moment)) (sym row) h))
+      (λ h. is.last d present covers d_before (subst (λ (v : Value). StandsBefore (spot_of_item c) (spot_of v d.moment)) (sym row) h))
 
 -- of the writes with a property there is a first one, or there is none
 module _ (P : Op → Type 0) (p : Op → Bool) (decides : (op : Op) → Decides (p op) (P op)) (ops : List Op) where
@@ -111,7 +111,7 @@ module _ (P : Op → Type 0) (p : Op → Bool) (decides : (op : Op) → Decides 
           let is = least_by-IsLeast begin test ops n e in
           let q = (passes n).0 is.passes in
           record {
-            stands = is.stands;
+            present = is.present;
             write = q.0;
             fits = q.1;
             first = λ w sw ww fits. All-contains (λ o. IsTrue (test o) → begin n ≤ begin o) ops w is.least sw ((passes w).1 (ww, fits));
@@ -199,7 +199,7 @@ module _ (claim : ClaimModel) (ops : List Op) (items : List RowItem) (are : AreI
   of_write : (w : Op) → Contains ops w → IsWrite w → (next : Option Op) × Contains items (cover_item claim w next)
   of_write w sw ww =
       let n = first_after w.begin.0 ops in
-      (n.0, are.each (cover_item claim w n.0) (inr (inl (record { write = w; stands = sw; writes = ww; next = n.0; next_is = n.1; is = refl }))))
+      (n.0, are.each (cover_item claim w n.0) (inr (inl (record { write = w; present = sw; writes = ww; next = n.0; next_is = n.1; is = refl }))))
 
   of_initial : (next : Option Op) × Contains items (initial_item claim next)
   of_initial = let n = first_of_all ops in (n.0, are.each (initial_item claim n.0) (inr (inr (record { next = n.0; next_is = n.1; is = refl }))))
@@ -224,9 +224,9 @@ module _ (claim : ClaimModel) (ops : List Op) (items : List RowItem) (are : AreI
         next = next;
         is = refl;
         last = record {
-          stands = sw;
+          present = sw;
           write = ww;
-          fits = (same, less_by_counted w.begin.0 (end_number r) (is_if_stands (row_of c) (row_of x) c.moment x.moment same is.before));
+          fits = (same, less_by_counted w.begin.0 (end_number r) (is_if_present (row_of c) (row_of x) c.moment x.moment same is.before));
           last = λ u su uu near.
               let n = of_write u su uu in
               let le = none_later items x c is (cover_item claim u n.0) n.1 refl near.0 (counted_less u.begin.0 (end_number r) low near.1) same in
@@ -259,16 +259,16 @@ module _ (claim : ClaimModel) (ops : List Op) (items : List RowItem) (are : AreI
   pub nearest : (c : Option RowItem) → IsCoverAt items (spot_of_item x) c → IsNearest claim ops r c
   nearest None is = inr (inr (record {
     other = tt;
-    row = λ e. let i = of_initial in is (initial_item claim i.0) i.1 refl (stands_if _ _ (numbered_moment 0) x.moment e (counted_some (end_number r)));
-    none = λ w sw ww near. let n = of_write w sw ww in is (cover_item claim w n.0) n.1 refl (stands_if _ _ (numbered_moment (counted_from_1 w.begin.0)) x.moment near.0 (counted_less w.begin.0 (end_number r) low near.1));
+    row = λ e. let i = of_initial in is (initial_item claim i.0) i.1 refl (present_if _ _ (numbered_moment 0) x.moment e (counted_some (end_number r)));
+    none = λ w sw ww near. let n = of_write w sw ww in is (cover_item claim w n.0) n.1 refl (present_if _ _ (numbered_moment (counted_from_1 w.begin.0)) x.moment near.0 (counted_less w.begin.0 (end_number r) low near.1));
   }))
-  nearest (Some c) is = by_cases (are.only c is.stands)
+  nearest (Some c) is = by_cases (are.only c is.present)
     where
       by_cases : IsOperationItem claim ops c → IsNearest claim ops r (Some c)
       by_cases (inl read) = absurd (let covers : IsTrue (read_item claim read.read).covers = subst (λ (d : RowItem). IsTrue d.covers) read.is is.covers in cc)
       by_cases (inr (inl cover)) =
           subst (λ (d : RowItem). IsNearest claim ops r (Some d)) (sym cover.is)
-          (by_write cover.write cover.next cover.stands cover.writes cover.next_is (subst (IsLastCover items (spot_of_item x)) cover.is is))
+          (by_write cover.write cover.next cover.present cover.writes cover.next_is (subst (IsLastCover items (spot_of_item x)) cover.is is))
       by_cases (inr (inr initial)) =
           subst (λ (d : RowItem). IsNearest claim ops r (Some d)) (sym initial.is)
           (by_initial initial.next initial.next_is (subst (IsLastCover items (spot_of_item x)) initial.is is))
@@ -293,9 +293,9 @@ not_over_by (Some end) m lt h = omega arith
 module _ (claim : ClaimModel) (ops : List Op) (apart : AreOneWriters claim ops) where
   -- for a judged read of the list `IsReadAmong` holds
   pub read_among : (r : Op) → Contains ops r → IsJudgedRead r → IsReadAmong ops r
-  read_among r stands judged = record {
-    long = long_by r.begin r.end ended (All-contains EndsAfterBeginning ops r apart.kept.ends stands);
-    reached = λ w sw ww not. reached_by r.end w.begin ended (meets w ww (one_or_so ShareNoMoment (λ a b none moment of_b of_a. none moment of_a of_b) ops apart.kept.moments w r sw stands)) not;
+  read_among r present judged = record {
+    long = long_by r.begin r.end ended (All-contains EndsAfterBeginning ops r apart.kept.ends present);
+    reached = λ w sw ww not. reached_by r.end w.begin ended (meets w ww (one_or_so ShareNoMoment (λ a b none moment of_b of_a. none moment of_a of_b) ops apart.kept.moments w r sw present)) not;
     not_over = λ w lt. not_over_by r.end w.begin lt;
   }
     where

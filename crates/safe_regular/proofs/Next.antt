@@ -12,23 +12,23 @@ module _ (n : ℕ) where
   first_with : (a : Op) (ops : List Op) (found : Option Op) → IsFirstWriteOf (BeginsFrom n) ops found → (next : Option Op) × IsFirstWriteOf (BeginsFrom n) (a ∷ ops) next
   first_with a ops found is = by_write (is_write a) refl
     where
-      behind : (x : Op) → Contains ops x → Contains (a ∷ ops) x
-      behind x h = (suc h.0, omega (arith, h.1), h.2)
+      following : (x : Op) → Contains ops x → Contains (a ∷ ops) x
+      following x h = (suc h.0, omega (arith, h.1), h.2)
 
       cases : (x : Op) → Contains (a ∷ ops) x → (a ≡ x) ⊎ Contains ops x
       cases x (zero, lt, e) = inl e
       cases x (suc k, lt, e) = inr (k, omega (arith, lt), e)
 
       kept : (found : Option Op) → IsFirstWriteOf (BeginsFrom n) ops found → (IsWrite a → n ≤ a.begin.0 → (f : Op) × (found ≡ Some f) × (f.begin.0 ≤ a.begin.0)) → IsFirstWriteOf (BeginsFrom n) (a ∷ ops) found
-      kept None none first = λ w stands write from. elim (cases w stands) [
+      kept None none first = λ w present write from. elim (cases w present) [
         | inl same ↦ let f = first (subst IsWrite (sym same) write) (subst (λ (o : Op). n ≤ o.begin.0) (sym same) from) in absurd (cc)
         | inr later ↦ none w later write from
       ]
       kept (Some f) is first = record {
-        stands = behind f is.stands;
+        present = following f is.present;
         write = is.write;
         fits = is.fits;
-        first = λ w stands write from. elim (cases w stands) [
+        first = λ w present write from. elim (cases w present) [
           | inl same ↦ let (g, e, le) = first (subst IsWrite (sym same) write) (subst (λ (o : Op). n ≤ o.begin.0) (sym same) from) in
               let same_first : f ≡ g = cc in subst (λ (o : Op). f.begin.0 ≤ o.begin.0) same (subst (λ (o : Op). o.begin.0 ≤ a.begin.0) (sym same_first) le)
           | inr later ↦ is.first w later write from
@@ -37,19 +37,19 @@ module _ (n : ℕ) where
 
       itself : IsWrite a → n ≤ a.begin.0 → ((w : Op) → Contains ops w → IsWrite w → n ≤ w.begin.0 → a.begin.0 ≤ w.begin.0) → IsFirstWriteOf (BeginsFrom n) (a ∷ ops) (Some a)
       itself write from least = record {
-        stands = (0, omega arith, refl);
+        present = (0, omega arith, refl);
         write = write;
         fits = from;
-        first = λ w stands w_writes w_from. elim (cases w stands) [
+        first = λ w present w_writes w_from. elim (cases w present) [
           | inl same ↦ subst (λ (o : Op). a.begin.0 ≤ o.begin.0) same (omega arith)
           | inr later ↦ least w later w_writes w_from
         ];
       }
 
       by_found : IsWrite a → n ≤ a.begin.0 → (found : Option Op) → IsFirstWriteOf (BeginsFrom n) ops found → (next : Option Op) × IsFirstWriteOf (BeginsFrom n) (a ∷ ops) next
-      by_found write from None none = (Some a, itself write from (λ w stands w_writes w_from. absurd (none w stands w_writes w_from)))
+      by_found write from None none = (Some a, itself write from (λ w present w_writes w_from. absurd (none w present w_writes w_from)))
       by_found write from (Some f) is = elim (cases_lt a.begin.0 f.begin.0) [
-        | inl lt ↦ (Some a, itself write from (λ w stands w_writes w_from. let le : f.begin.0 ≤ w.begin.0 = is.first w stands w_writes w_from in omega (arith, lt, le)))
+        | inl lt ↦ (Some a, itself write from (λ w present w_writes w_from. let le : f.begin.0 ≤ w.begin.0 = is.first w present w_writes w_from in omega (arith, lt, le)))
         | inr le ↦ (Some f, kept (Some f) is (λ w_writes w_from. (f, refl, le)))
       ]
 
@@ -61,7 +61,7 @@ module _ (n : ℕ) where
       ]
 
   pub some_first : (ops : List Op) → (next : Option Op) × IsFirstWriteOf (BeginsFrom n) ops next
-  some_first [] = (None, λ w stands write from. absurd (omega (arith, stands.1)))
+  some_first [] = (None, λ w present write from. absurd (omega (arith, present.1)))
   some_first (a ∷ ops) = let (found, is) = some_first ops in first_with a ops found is
 
 -- an edit: the others stay, one operation may go and one may come
@@ -78,14 +78,14 @@ module _ (ops others after : List Op) (old new : Option Op)
 
   module _ (n : ℕ) (old_apart : IsApartFrom old n) (new_apart : IsApartFrom new n) where
     pub next_after : (next : Option Op) → IsFirstWriteOf (BeginsFrom n) ops next → IsFirstWriteOf (BeginsFrom n) after next
-    next_after None none = λ v stands write from. elim (after_cases v stands) [
+    next_after None none = λ v present write from. elim (after_cases v present) [
       | inl among ↦ none v (in_before v (inl among)) write from
-      | inr is ↦ new_apart v is write from (λ u u_stands u_writes lt. elim (after_cases u u_stands) [
+      | inr is ↦ new_apart v is write from (λ u u_present u_writes lt. elim (after_cases u u_present) [
         | inl among ↦ elim (cases_lt u.begin.0 n) [ inl below ↦ below | inr above ↦ absurd (none u (in_before u (inl among)) u_writes above) ]
         | inr same ↦ absurd (let e : v ≡ u = cc in let begins : v.begin.0 ≡ u.begin.0 = ap (λ (o : Op). o.begin.0) e in omega (arith, lt, begins))
       ])
     ]
-    next_after (Some f) is = by_first (before_cases f is.stands)
+    next_after (Some f) is = by_first (before_cases f is.present)
       where
         -- none of the others begins between n and f
         none_between : (u : Op) → Contains others u → IsWrite u → u.begin.0 < f.begin.0 → u.begin.0 < n
@@ -97,51 +97,51 @@ module _ (ops others after : List Op) (old new : Option Op)
         -- the new one does not begin there either
         new_between : (v : Op) → new ≡ Some v → IsWrite v → n ≤ v.begin.0 → f.begin.0 ≤ v.begin.0
         new_between v new_is write from = elim (cases_lt v.begin.0 f.begin.0) [
-          | inl before ↦ absurd (new_apart v new_is write from (λ u u_stands u_writes lt. elim (after_cases u u_stands) [
+          | inl before ↦ absurd (new_apart v new_is write from (λ u u_present u_writes lt. elim (after_cases u u_present) [
             | inl among ↦ none_between u among u_writes (omega (arith, lt, before))
             | inr same ↦ absurd (let e : v ≡ u = cc in let begins : v.begin.0 ≡ u.begin.0 = ap (λ (o : Op). o.begin.0) e in omega (arith, lt, begins))
           ]))
-          | inr behind ↦ behind
+          | inr following ↦ following
         ]
 
         by_first : IsAmong others old f → IsFirstWrite (BeginsFrom n) after f
         by_first (inl among) = record {
-          stands = in_after f (inl among);
+          present = in_after f (inl among);
           write = is.write;
           fits = is.fits;
-          first = λ v stands write from. elim (after_cases v stands) [
+          first = λ v present write from. elim (after_cases v present) [
             | inl v_among ↦ is.first v (in_before v (inl v_among)) write from
             | inr new_is ↦ new_between v new_is write from
           ];
         }
-        by_first (inr old_is) = absurd (old_apart f old_is is.write is.fits (λ u stands write lt. elim (after_cases u stands) [
+        by_first (inr old_is) = absurd (old_apart f old_is is.write is.fits (λ u present write lt. elim (after_cases u present) [
           | inl among ↦ none_between u among write lt
           | inr new_is ↦ elim (cases_lt u.begin.0 n) [ inl below ↦ below | inr above ↦ absurd (let le : f.begin.0 ≤ u.begin.0 = new_between u new_is write above in omega (arith, lt, le)) ]
         ]))
 
     pub next_before : (next : Option Op) → IsFirstWriteOf (BeginsFrom n) after next → IsFirstWriteOf (BeginsFrom n) ops next
-    next_before None none = λ v stands write from. elim (before_cases v stands) [
+    next_before None none = λ v present write from. elim (before_cases v present) [
       | inl among ↦ none v (in_after v (inl among)) write from
-      | inr old_is ↦ old_apart v old_is write from (λ u u_stands u_writes lt. elim (cases_lt u.begin.0 n) [ inl below ↦ below | inr above ↦ absurd (none u u_stands u_writes above) ])
+      | inr old_is ↦ old_apart v old_is write from (λ u u_present u_writes lt. elim (cases_lt u.begin.0 n) [ inl below ↦ below | inr above ↦ absurd (none u u_present u_writes above) ])
     ]
-    next_before (Some f) is = by_first (after_cases f is.stands)
+    next_before (Some f) is = by_first (after_cases f is.present)
       where
         none_between : (u : Op) → Contains after u → IsWrite u → u.begin.0 < f.begin.0 → u.begin.0 < n
-        none_between u stands write lt = elim (cases_lt u.begin.0 n) [
+        none_between u present write lt = elim (cases_lt u.begin.0 n) [
           | inl below ↦ below
-          | inr above ↦ absurd (let le : f.begin.0 ≤ u.begin.0 = is.first u stands write above in omega (arith, lt, le))
+          | inr above ↦ absurd (let le : f.begin.0 ≤ u.begin.0 = is.first u present write above in omega (arith, lt, le))
         ]
 
         by_first : IsAmong others new f → IsFirstWrite (BeginsFrom n) ops f
         by_first (inr new_is) = absurd (new_apart f new_is is.write is.fits none_between)
         by_first (inl among) = record {
-          stands = in_before f (inl among);
+          present = in_before f (inl among);
           write = is.write;
           fits = is.fits;
-          first = λ v stands write from. elim (before_cases v stands) [
+          first = λ v present write from. elim (before_cases v present) [
             | inl v_among ↦ is.first v (in_after v (inl v_among)) write from
             | inr old_is ↦ elim (cases_lt v.begin.0 f.begin.0) [
-              | inl lt ↦ absurd (old_apart v old_is write from (λ u u_stands u_writes u_lt. none_between u u_stands u_writes (omega (arith, u_lt, lt))))
+              | inl lt ↦ absurd (old_apart v old_is write from (λ u u_present u_writes u_lt. none_between u u_present u_writes (omega (arith, u_lt, lt))))
               | inr le ↦ le
             ]
           ];

@@ -17,7 +17,7 @@ use Rattle.safe_regular.specs.Apart.{AreSequential}
 use Rattle.safe_regular.specs.LookUp.{BeginsBefore, BeginsFrom, BeginsAfter, IsLastWrite, IsFirstWrite, IsLastOf, IsFirstWriteOf, IsBeyondOf, AreBeside, beside_of}
 use Rattle.safe_regular.proofs.Apart.{either_way, precedes_later, begins_before, same_or_precedes}
 use Rattle.intervals.proofs.LeastOf.{least_among}
-use Rattle.safe_regular.proofs.LookUp.{last_found, first_found, last_stands, first_stands, in_front, in_rest, each_of}
+use Rattle.safe_regular.proofs.LookUp.{last_found, first_found, last_present, first_is_present, in_front, in_rest, each_of}
 
 -- another write that op overlaps
 abbrev pub IsOverlapped : Op → Op → Type 0
@@ -46,12 +46,12 @@ module _ (ops : List Op) (op : Op) (apart : AreSequential ops) where
   overlapped_by_few few stand best =
       least_among begin_number (is_overlapped op) ops few
       (λ a b sa sb oa ob. apart.one a b sa sb ((Decides-is_overlapped op a).0 oa).1 ((Decides-is_overlapped op b).0 ob).1)
-      stand (λ w stands over. best w stands ((Decides-is_overlapped op w).0 over))
+      stand (λ w present over. best w present ((Decides-is_overlapped op w).0 over))
 
   -- an overlapped write that has P, and so begins before op does, is the last write with P
   below_is : (P : Op → Type 0) (below : Option Op) → ((w : Op) → P w → w.begin.0 < op.begin.0) → IsLastOf P ops below → (w : Op) → Contains ops w → IsOverlapped op w → P w → below ≡ Some w
   below_is P below fits is w sw over p =
-      let l = last_found P ops below is w sw over.1 p in by_cases l.0 l.1 l.2 (same_or_precedes ops apart w l.0 sw l.2.stands over.1 l.2.write l.3)
+      let l = last_found P ops below is w sw over.1 p in by_cases l.0 l.1 l.2 (same_or_precedes ops apart w l.0 sw l.2.present over.1 l.2.write l.3)
     where
       by_cases : (l : Op) → below ≡ Some l → IsLastWrite P ops l → (w ≡ l) ⊎ ((w.begin.0 < l.begin.0) × Precedes w l) → below ≡ Some w
       by_cases l e is (inl same) = e ∙ ap Some (sym same)
@@ -85,7 +85,7 @@ module _ (ops : List Op) (op : Op) (apart : AreSequential ops) where
 
     -- the case that `above` has the id of op
     by_beyond : (a w : Op) → above ≡ Some a → IsFirstWrite (BeginsFrom op.begin.0) ops a → a.id ≡ op.id → Contains ops w → IsOverlapped op w → a.begin.0 ≤ w.begin.0 → HasBefore few w
-    by_beyond a w e is own sw over le = by_cases (same_or_precedes ops apart a w is.stands sw is.write over.1 le)
+    by_beyond a w e is own sw over le = by_cases (same_or_precedes ops apart a w is.present sw is.write over.1 le)
       where
         next : IsFirstWriteOf (BeginsAfter a.begin.0) ops beyond
         next = MatchBool-at_true _ (beyond ≡ None) ((Decides-same_id_is a.id op.id).1 own) (subst (λ (o : Option Op). IsBeyondOf ops op o beyond) e beside.beyond_is)
@@ -96,15 +96,15 @@ module _ (ops : List Op) (op : Op) (apart : AreSequential ops) where
             let b = first_found (BeginsAfter a.begin.0) ops beyond next w sw over.1 p.0 in
             let after : a.begin.0 < b.0.begin.0 = b.2.fits in
             let from : op.begin.0 ≤ a.begin.0 = is.fits in
-            let other : b.0.id ≢ op.id = (λ h. absurd (let same = ap begin_number (one b.0 a b.2.stands is.stands b.2.write is.write (h ∙ sym own)) in omega arith)) in
-            (b.0, has_beyond b.0 b.1, above_over b.0 w b.2.stands b.2.write other (omega arith) b.3 over, b.3)
+            let other : b.0.id ≢ op.id = (λ h. absurd (let same = ap begin_number (one b.0 a b.2.present is.present b.2.write is.write (h ∙ sym own)) in omega arith)) in
+            (b.0, has_beyond b.0 b.1, above_over b.0 w b.2.present b.2.write other (omega arith) b.3 over, b.3)
 
     has_before : (w : Op) → Contains ops w → IsOverlapped op w → HasBefore few w
     has_before w sw over = by_cases (cases_lt w.begin.0 op.begin.0)
       where
         by_above : (a : Op) → above ≡ Some a → IsFirstWrite (BeginsFrom op.begin.0) ops a → a.begin.0 ≤ w.begin.0 → (a.id ≡ op.id) ⊎ (a.id ≢ op.id) → HasBefore few w
         by_above a e is le (inl own) = by_beyond a w e is own sw over le
-        by_above a e is le (inr other) = (a, has_above a e, above_over a w is.stands is.write other is.fits le over, le)
+        by_above a e is le (inr other) = (a, has_above a e, above_over a w is.present is.write other is.fits le over, le)
 
         by_cases : (w.begin.0 < op.begin.0) ⊎ (op.begin.0 ≤ w.begin.0) → HasBefore few w
         by_cases (inl lt) =
@@ -114,19 +114,19 @@ module _ (ops : List Op) (op : Op) (apart : AreSequential ops) where
             let a = first_found (BeginsFrom op.begin.0) ops above beside.above_is w sw over.1 le in
             by_above a.0 a.1 a.2 a.3 (either_way (same_id a.0.id op.id) (Decides-same_id_is a.0.id op.id))
 
-    beyond_stands : (found : Option Op) → IsBeyondOf ops op found beyond → (w : Op) → beyond ≡ Some w → Contains ops w
-    beyond_stands None is w e = absurd (cc)
-    beyond_stands (Some a) is w e = by_cases (cases_Bool (same_id a.id op.id))
+    beyond_present : (found : Option Op) → IsBeyondOf ops op found beyond → (w : Op) → beyond ≡ Some w → Contains ops w
+    beyond_present None is w e = absurd (cc)
+    beyond_present (Some a) is w e = by_cases (cases_Bool (same_id a.id op.id))
       where
         by_cases : (same_id a.id op.id ≡ true) ⊎ (same_id a.id op.id ≡ false) → Contains ops w
-        by_cases (inl t) = first_stands (BeginsAfter a.begin.0) ops beyond (MatchBool-at_true _ (beyond ≡ None) t is) w e
+        by_cases (inl t) = first_is_present (BeginsAfter a.begin.0) ops beyond (MatchBool-at_true _ (beyond ≡ None) t is) w e
         by_cases (inr f) = absurd (let none : beyond ≡ None = MatchBool-at_false (IsFirstWriteOf (BeginsAfter a.begin.0) ops beyond) (beyond ≡ None) f is in cc)
 
     stand : (w : Op) → Contains few w → Contains ops w
     stand =
-        each_of (Contains ops) below (cons_option above (cons_option beyond [])) (last_stands (BeginsBefore op.begin.0) ops below beside.below_is)
-        (each_of (Contains ops) above (cons_option beyond []) (first_stands (BeginsFrom op.begin.0) ops above beside.above_is)
-        (each_of (Contains ops) beyond [] (beyond_stands above beside.beyond_is)
+        each_of (Contains ops) below (cons_option above (cons_option beyond [])) (last_present (BeginsBefore op.begin.0) ops below beside.below_is)
+        (each_of (Contains ops) above (cons_option beyond []) (first_is_present (BeginsFrom op.begin.0) ops above beside.above_is)
+        (each_of (Contains ops) beyond [] (beyond_present above beside.beyond_is)
         (λ w h. absurd (omega (arith, h.1)))))
 
     pub overlapped_beside : least_by begin_number (is_overlapped op) ops ≡ least_by begin_number (is_overlapped op) (beside_of below above beyond)

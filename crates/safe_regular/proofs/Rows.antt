@@ -62,15 +62,15 @@ module _ (rows : List JudgedRead) (place : ℕ) (row : JudgedRead) (lt : place <
         inr (h.0, omega (arith, in_set, long), sym (get_or-set_other rows place h.0 row x ne) ∙ h.2, ne)
   ]
 
-  pub set_stands : Contains (set rows place row) row
-  set_stands = (place, (let long = length-set rows place row in omega (arith, lt, long)), get_or-set_same rows place row row lt)
+  pub set_present : Contains (set rows place row) row
+  set_present = (place, (let long = length-set rows place row in omega (arith, lt, long)), get_or-set_same rows place row row lt)
 
   pub set_kept : (x : JudgedRead) → (h : Contains rows x) → h.0 ≢ place → Contains (set rows place row) x
   set_kept x h ne = (h.0, (let long = length-set rows place row in let within = h.1 in omega (arith, within, long)), get_or-set_other rows place h.0 row x ne ∙ h.2)
 
   pub set_put : ((d : JudgedRead) → end_in rows place d ≡ row.end.0) → IsPut row rows (set rows place row)
   set_put same = record {
-    put = set_stands;
+    put = set_present;
     kept = λ x h other. set_kept x h (λ e. other (sym (end_at rows x h x) ∙ ap (λ (n : ℕ). end_in rows n x) e ∙ same x));
     only = λ x h. elim (set_cases x h) [ inl e ↦ inl e | inr at ↦ inr (at.0, at.1, at.2) ];
   }
@@ -82,7 +82,7 @@ module _ (rows : List JudgedRead) (place : ℕ) (row : JudgedRead) (lt : place <
     kept = λ x h. elim (cases_eq h.0 place) [
       | inl e ↦ (
         row,
-        set_stands,
+        set_present,
         end_same ∙ sym (there x) ∙ ap (λ (n : ℕ). end_in rows n x) (sym e) ∙ end_at rows x h x,
         id_same x ∙ ap (λ (n : ℕ). (get_or rows n x).id) (sym e) ∙ ap (λ (r : JudgedRead). r.id) h.2,
       )
@@ -95,7 +95,7 @@ module _ (rows : List JudgedRead) (place : ℕ) (row : JudgedRead) (lt : place <
         λ same. elim (cases_order at.0 place) [
           | inl e ↦ at.3 e
           | inr (inl before) ↦ let less = up at.0 place y before lt in let is = there y in let own = end_at rows y (at.0, at.1, at.2) y in omega (arith, less, is, own, same)
-          | inr (inr behind) ↦ let less = up place at.0 y behind at.1 in let is = there y in let own = end_at rows y (at.0, at.1, at.2) y in omega (arith, less, is, own, same)
+          | inr (inr following) ↦ let less = up place at.0 y following at.1 in let is = there y in let own = end_at rows y (at.0, at.1, at.2) y in omega (arith, less, is, own, same)
         ],
       )
     ];
@@ -111,13 +111,13 @@ module _ (rows : List JudgedRead) (place : ℕ) (row : JudgedRead) (le : place �
   placed k d = elim (cases_order k place) [
     | inl e ↦ inr (inl (e, ap (λ (j : ℕ). get_or more j d) e ∙ get_or-insert_at rows place row d le))
     | inr (inl before) ↦ inl (before, get_or-insert_below rows place row d k before le)
-    | inr (inr behind) ↦
-        let back : k ≡ k - 1 + 1 = omega (arith, behind) in
-        inr (inr (behind, ap (λ (j : ℕ). get_or more j d) back ∙ get_or-insert_above rows place row d (k - 1) (omega (arith, behind)) le))
+    | inr (inr following) ↦
+        let back : k ≡ k - 1 + 1 = omega (arith, following) in
+        inr (inr (following, ap (λ (j : ℕ). get_or more j d) back ∙ get_or-insert_above rows place row d (k - 1) (omega (arith, following)) le))
   ]
 
   pub insert_rising : AreRising rows → ((k : ℕ) (d : JudgedRead) → k < place → end_in rows k d < row.end.0) → ((k : ℕ) (d : JudgedRead) → place ≤ k → k < length rows → row.end.0 < end_in rows k d) → AreRising more
-  insert_rising up before behind i j d lt within =
+  insert_rising up before following i j d lt within =
       let long = length-insert rows place row le in
       elim (placed i d) [
         | inl a ↦ elim (placed j d) [
@@ -128,7 +128,7 @@ module _ (rows : List JudgedRead) (place : ℕ) (row : JudgedRead) (le : place �
         | inr (inl a) ↦ elim (placed j d) [
           | inl b ↦ absurd (let ai = a.0 in let bj = b.0 in omega (arith, ai, bj, lt))
           | inr (inl b) ↦ absurd (let ai = a.0 in let bj = b.0 in omega (arith, ai, bj, lt))
-          | inr (inr b) ↦ let ea = end_is _ _ a.1 in let eb = end_is _ _ b.1 in let ai = a.0 in let bj = b.0 in let less = behind (j - 1) d (omega (arith, bj)) (omega (arith, within, long, bj)) in omega (arith, ea, eb, less)
+          | inr (inr b) ↦ let ea = end_is _ _ a.1 in let eb = end_is _ _ b.1 in let ai = a.0 in let bj = b.0 in let less = following (j - 1) d (omega (arith, bj)) (omega (arith, within, long, bj)) in omega (arith, ea, eb, less)
         ]
         | inr (inr a) ↦ elim (placed j d) [
           | inl b ↦ absurd (let ai = a.0 in let bj = b.0 in omega (arith, ai, bj, lt))
@@ -175,7 +175,7 @@ place_here number rows at le up from below = record {
     | inl e ↦ let less = below d (omega (arith, lt)) in let same = ap (λ (n : ℕ). end_in rows n d) e in omega (arith, less, same)
     | inr ne ↦ let less = below d (omega (arith, lt)) in let rise = up k (at - 1) d (omega (arith, ne, lt)) (omega (arith, le, lt)) in omega (arith, less, rise)
   ];
-  behind = from;
+  following = from;
 }
 
 pub from_one_before : (number : ℕ) (rows : List JudgedRead) (at : ℕ) → 0 < at → ((d : JudgedRead) → number ≤ end_in rows (at - 1) d) → EndFrom number rows at → EndFrom number rows (at - 1)
@@ -185,9 +185,9 @@ from_one_before number rows at some here from k d ge lt = elim (cases_eq k (at -
 ]
 
 -- where the row at the place of an end has another end, the rows from there on end later
-pub behind_place : (number : ℕ) (rows : List JudgedRead) (place : ℕ) → AreRising rows → IsPlaceOf number rows place → ((d : JudgedRead) → place < length rows → end_in rows place d ≢ number) → (k : ℕ) (d : JudgedRead) → place ≤ k → k < length rows → number < end_in rows k d
-behind_place number rows place up is none k d ge lt =
-    let first = is.behind place d (omega arith) (omega (arith, ge, lt)) in
+pub after_place : (number : ℕ) (rows : List JudgedRead) (place : ℕ) → AreRising rows → IsPlaceOf number rows place → ((d : JudgedRead) → place < length rows → end_in rows place d ≢ number) → (k : ℕ) (d : JudgedRead) → place ≤ k → k < length rows → number < end_in rows k d
+after_place number rows place up is none k d ge lt =
+    let first = is.following place d (omega arith) (omega (arith, ge, lt)) in
     let other = none d (omega (arith, ge, lt)) in
     elim (cases_eq k place) [
       | inl e ↦ let same = ap (λ (n : ℕ). end_in rows n d) e in omega (arith, first, other, same)
@@ -217,10 +217,6 @@ module _ (claim : ClaimModel) (ops : List Op) where
     kept = is.kept;
     each = λ y h. elim (is.each y h) [ inl right ↦ inl right | inr old ↦ inr (old.0, λ q. old.1 (weaker y old.0 q)) ];
   }
-
--- `AreKept` holds of no change, and of one change after another
-pub kept_itself : (a : JudgedReads) → AreKept a a
-kept_itself a = record { len = refl; ends = λ k d. refl; front = λ h. h; latest = refl; room = λ h. h }
 
 pub kept_both : (a b c : JudgedReads) → AreKept a b → AreKept b c → AreKept a c
 kept_both a b c one two = record {
@@ -256,16 +252,16 @@ module _ (a b : JudgedReads) (kept : AreKept a b) (up : AreRising a.rows.items) 
           | inl eq ↦ let moved = ap (λ (n : ℕ). end_in rows n e) eq in omega (arith, same, own, moved)
           | inr ne ↦ let less = up k at e (omega (arith, low, ne)) lt in omega (arith, same, own, less)
         ];
-    behind = λ k e ge within.
+    following = λ k e ge within.
         let same = kept.ends k e in let own = here_is e in let long = kept.len in
         let less = up at k e (omega (arith, ge)) (omega (arith, within, long)) in omega (arith, same, own, less);
   }
 
-  pub one_or_behind : (y : JudgedRead) → Contains rows y → number ≤ y.end.0 → (y.end.0 ≡ here) ⊎ (here + 1 ≤ y.end.0)
-  one_or_behind y h ge = elim (cases_order h.0 at) [
+  pub one_or_after : (y : JudgedRead) → Contains rows y → number ≤ y.end.0 → (y.end.0 ≡ here) ⊎ (here + 1 ≤ y.end.0)
+  one_or_after y h ge = elim (cases_order h.0 at) [
     | inl e ↦ inl (sym (end_at rows y h y) ∙ ap (λ (n : ℕ). end_in rows n y) e ∙ here_is y)
     | inr (inl before) ↦ absurd (let less = is.before h.0 y before in let own = end_at rows y h y in omega (arith, less, own, ge))
-    | inr (inr behind) ↦ let less = up at h.0 y behind h.1 in let own = end_at rows y h y in let it = here_is y in inr (omega (arith, less, own, it))
+    | inr (inr following) ↦ let less = up at h.0 y following h.1 in let own = end_at rows y h y in let it = here_is y in inr (omega (arith, less, own, it))
   ]
 
 -- the rows from one on are judged where that row is, and then those after it
@@ -275,7 +271,7 @@ pub judged_from : (claim : ClaimModel) (ops : List Op) (a b c : JudgedReads) →
 judged_from claim ops a b c kept up number at lt is d one rest =
     judged_those claim ops (λ n. (n ≡ end_in a.rows.items at d) ⊎ (end_in a.rows.items at d + 1 ≤ n)) (λ n. number ≤ n) a.rows.items c.rows.items
     (judged_both claim ops (λ n. n ≡ end_in a.rows.items at d) (λ n. end_in a.rows.items at d + 1 ≤ n) a.rows.items b.rows.items c.rows.items one rest)
-    (λ y h ge. one_or_behind a b kept up number at lt is d y h ge)
+    (λ y h ge. one_or_after a b kept up number at lt is d y h ge)
 
 -- for a place within the rows the default does not matter
 pub at_default : (rows : List JudgedRead) (k : ℕ) (d e : JudgedRead) → k < length rows → end_in rows k d ≡ end_in rows k e
@@ -285,5 +281,5 @@ at_default rows k d e lt = end_is _ _ (get_or_default rows k d e lt)
 pub none_there : (number : ℕ) (rows : List JudgedRead) (place : ℕ) → AreRising rows → IsPlaceOf number rows place → ((d : JudgedRead) → place < length rows → end_in rows place d ≢ number) → (y : JudgedRead) → Contains rows y → y.end.0 ≢ number
 none_there number rows place up is none y h e = elim (cases_lt h.0 place) [
   | inl before ↦ let less = is.before h.0 y before in let own = end_at rows y h y in omega (arith, less, own, e)
-  | inr behind ↦ let more = behind_place number rows place up is none h.0 y behind h.1 in let own = end_at rows y h y in omega (arith, more, own, e)
+  | inr following ↦ let more = after_place number rows place up is none h.0 y following h.1 in let own = end_at rows y h y in omega (arith, more, own, e)
 ]

@@ -14,7 +14,7 @@ use Rattle.intervals.specs.Edit.{found_by, op_of}
 use Rattle.intervals.specs.Judging.{end_number, first_wrong, is_wrong_read}
 use Rattle.intervals.specs.Operation.{IsJudgedRead, is_judged_read, same_id}
 use Rattle.intervals.specs.Terms.{ClaimModel}
-use Rattle.intervals.proofs.Ids.{Decides-same_id_is, found_again, found_stands, same_id-refl}
+use Rattle.intervals.proofs.Ids.{Decides-same_id_is, found_again, found_present, same_id-refl}
 use Rattle.safe_regular.specs.declared.judged.JudgedRead.{JudgedRead}
 use Rattle.safe_regular.specs.declared.judged.JudgedReads.{JudgedReads}
 use Rattle.safe_regular.specs.Change.{IsChangeOf}
@@ -46,8 +46,8 @@ module _ (claim : ClaimModel) (ops : List Op) where
   -- the row of a judged read of the list
   module _ (apart : AreOneWriters claim ops) where
     pub row_as : (row : JudgedRead) (r : Op) → Contains ops r → row.id ≡ r.id → row.end.0 ≡ end_number r → is_wrong_row claim ops row ≡ is_wrong_read claim ops r
-    row_as row r stands id end =
-        let found : op_of ops row.id ≡ Some r = found_again ops (Some row.id) r apart.kept.ids stands (subst (λ (i : OpId). same_id r.id i ≡ true) (sym id) (same_id-refl r.id)) in
+    row_as row r present id end =
+        let found : op_of ops row.id ≡ Some r = found_again ops (Some row.id) r apart.kept.ids present (subst (λ (i : OpId). same_id r.id i ≡ true) (sym id) (same_id-refl r.id)) in
         rw (found, eq-eqb (end_number r) row.end.0 (sym end)) refl
 
     -- what the rows say: which read is the first wrong one, or that none is wrong
@@ -55,39 +55,39 @@ module _ (claim : ClaimModel) (ops : List Op) where
       abbrev rows : List JudgedRead
       rows = reads.rows.items
 
-      wrong_behind : (r : Op) → Contains ops r → IsTrue (is_wrong_read claim ops r) → (x : JudgedRead) × (h : Contains rows x) × (x.end.0 ≡ end_number r) × (reads.first ≤ h.0)
-      wrong_behind r stands wrong =
-          let (x, x_in, end, id) = are.there r stands (judged_where_wrong claim ops r wrong) in
-          let is_wrong : x.wrong ≡ true = are.right x x_in ∙ row_as x r stands id end ∙ wrong in (
+      wrong_following : (r : Op) → Contains ops r → IsTrue (is_wrong_read claim ops r) → (x : JudgedRead) × (h : Contains rows x) × (x.end.0 ≡ end_number r) × (reads.first ≤ h.0)
+      wrong_following r present wrong =
+          let (x, x_in, end, id) = are.there r present (judged_where_wrong claim ops r wrong) in
+          let is_wrong : x.wrong ≡ true = are.right x x_in ∙ row_as x r present id end ∙ wrong in (
             x,
             x_in,
             end,
             elim (cases_lt x_in.0 reads.first) [
               | inl before ↦ absurd (both_ways x.wrong (ap (λ (y : JudgedRead). y.wrong) (sym x_in.2) ∙ are.front x_in.0 x before x_in.1) is_wrong)
-              | inr behind ↦ behind
+              | inr following ↦ following
             ],
           )
 
       pub none_told : length rows ≤ reads.first → first_wrong claim ops ≡ None
       none_told all =
           first_wrong_is claim ops (distinct_ends ops apart.kept.moments) None
-          (λ r stands wrong. let (x, x_in, end, behind) = wrong_behind r stands wrong in let within = x_in.1 in absurd (omega (arith, all, within, behind)))
+          (λ r present wrong. let (x, x_in, end, following) = wrong_following r present wrong in let within = x_in.1 in absurd (omega (arith, all, within, following)))
 
       pub first_told : (row : JudgedRead) → reads.first < length rows → ((d : JudgedRead) → get_or rows reads.first d ≡ row) → found_by ops (Some row.id) ≡ first_wrong claim ops
       first_told row within at =
-          let stands : Contains rows row = (reads.first, within, at row) in
-          let is_wrong : is_wrong_row claim ops row ≡ true = sym (are.right row stands) ∙ ap (λ (y : JudgedRead). y.wrong) (sym (at row)) ∙ are.first row within in
+          let present : Contains rows row = (reads.first, within, at row) in
+          let is_wrong : is_wrong_row claim ops row ≡ true = sym (are.right row present) ∙ ap (λ (y : JudgedRead). y.wrong) (sym (at row)) ∙ are.first row within in
           let (r, found, end, wrong) = read_of row is_wrong in
           let first : IsFirstEnded claim ops r = record {
-            stands = (found_stands ops (Some row.id) r found).0;
+            present = (found_present ops (Some row.id) r found).0;
             wrong = wrong;
-            first = λ other other_stands other_wrong.
-                let (x, x_in, x_end, behind) = wrong_behind other other_stands other_wrong in
+            first = λ other other_present other_wrong.
+                let (x, x_in, x_end, following) = wrong_following other other_present other_wrong in
                 let own = end_at rows x x_in row in
                 let is = ap (λ (y : JudgedRead). y.end.0) (at row) in
                 elim (cases_eq reads.first x_in.0) [
                   | inl same ↦ let moved = ap (λ (n : ℕ). (get_or rows n row).end.0) same in omega (arith, own, is, moved, end, x_end)
-                  | inr ne ↦ let less = are.rising reads.first x_in.0 row (omega (arith, ne, behind)) x_in.1 in omega (arith, own, is, less, end, x_end)
+                  | inr ne ↦ let less = are.rising reads.first x_in.0 row (omega (arith, ne, following)) x_in.1 in omega (arith, own, is, less, end, x_end)
                 ];
           } in
           found ∙ sym (first_wrong_is claim ops (distinct_ends ops apart.kept.moments) (Some r) first)
@@ -101,8 +101,8 @@ module _ (claim : ClaimModel) (ops : List Op) where
             | inl within ↦
                 let spare : JudgedRead = record { end = record { 0 = 0 }; id = record { feeder = 0; event = 0 }; wrong = false } in
                 let row : JudgedRead = get_or rows reads.first spare in
-                let stands : Contains rows row = Contains-get_or rows reads.first spare within in
-                let is_wrong : is_wrong_row claim ops row ≡ true = sym (are.right row stands) ∙ are.first spare within in
+                let present : Contains rows row = Contains-get_or rows reads.first spare within in
+                let is_wrong : is_wrong_row claim ops row ≡ true = sym (are.right row present) ∙ are.first spare within in
                 let (r, found, end, wrong) = read_of row is_wrong in
                 let told = first_told row within (λ d. get_or_default rows reads.first d spare within) in
                 absurd (cc (none, told, found))
@@ -117,8 +117,8 @@ module _ (claim : ClaimModel) (ops after : List Op) (old new : Option Op) (chang
     wrong_after wrong =
         let (r, found, end, is) = read_of claim ops row wrong in
         let judged = judged_where_wrong claim ops r is in
-        let (stands, id) = found_stands ops (Some row.id) r found in
-        elim (change.was r stands) [
+        let (present, id) = found_present ops (Some row.id) r found in
+        elim (change.was r present) [
           | inl among ↦
               row_as claim after change.apart_after row r (change.in_after r (inl among)) (id_is r.id row.id id) (sym end)
               ∙ sym (left_alone claim ops after old new change r among judged (alone r among judged end)) ∙ is
@@ -129,8 +129,8 @@ module _ (claim : ClaimModel) (ops after : List Op) (old new : Option Op) (chang
     wrong_before wrong =
         let (r, found, end, is) = read_of claim after row wrong in
         let judged = judged_where_wrong claim after r is in
-        let (stands, id) = found_stands after (Some row.id) r found in
-        elim (change.is r stands) [
+        let (present, id) = found_present after (Some row.id) r found in
+        elim (change.is r present) [
           | inl among ↦
               row_as claim ops change.apart_before row r (change.in_before r (inl among)) (id_is r.id row.id id) (sym end)
               ∙ left_alone claim ops after old new change r among judged (alone r among judged end) ∙ is
@@ -145,13 +145,13 @@ module _ (claim : ClaimModel) (ops after : List Op) (old new : Option Op) (chang
       (put ended judged : List JudgedRead) (is_put : IsPutFor new reads.rows.items put)
       (ends : AreJudgedAgain claim after (λ n. IsEndOf old n ⊎ IsEndOf new n) put ended) (rest : AreJudgedAgain claim after (λ n. number ≤ n) ended judged) where
     as_before : (row : JudgedRead) → Contains reads.rows.items row → ¬ (number ≤ row.end.0) → ¬ (IsEndOf old row.end.0 ⊎ IsEndOf new row.end.0) → IsJudgedBy claim after row
-    as_before row stands low not =
-        are.right row stands
+    as_before row present low not =
+        are.right row present
         ∙ row_alike row (λ e. not (inl e)) (λ e. not (inr e))
         (λ r among judges end. alone r (are.latest r (change.in_before r (inl among)) judges) (elim (cases_lt row.end.0 number) [ inl lt ↦ omega (arith, lt, end) | inr ge ↦ absurd (low ge) ]))
 
     pub right_after : (row : JudgedRead) → Contains judged row → IsJudgedBy claim after row
-    right_after row stands = elim (rest.each row stands) [
+    right_after row present = elim (rest.each row present) [
       | inl right ↦ right
       | inr late ↦ elim (ends.each row late.0) [
         | inl right ↦ right
@@ -175,13 +175,13 @@ module _ (claim : ClaimModel) (ops after : List Op) (old new : Option Op) (chang
         (z, z_in, z_end ∙ y_end ∙ end, z_id ∙ y_id ∙ own)
 
     pub there_after : (r : Op) → Contains after r → IsJudgedRead r → HasRow judged (end_number r) r.id
-    there_after r stands judges = row_stays (end_number r) r.id (elim (change.is r stands) [
+    there_after r present judges = row_stays (end_number r) r.id (elim (change.is r present) [
       | inl among ↦
           let (x, x_in, end, id) = are.there r (change.in_before r (inl among)) judges in
           elim is_put [
             | inl new_row ↦
                 let (row, o, is, o_judges, o_end, o_id, puts) = new_row in
-                (x, puts.kept x x_in (λ e. change.not_new r o among is (distinct_ends after change.apart_after.kept.moments r o stands (change.in_after o (inr is)) judges o_judges (sym end ∙ e ∙ o_end))), end, id)
+                (x, puts.kept x x_in (λ e. change.not_new r o among is (distinct_ends after change.apart_after.kept.moments r o present (change.in_after o (inr is)) judges o_judges (sym end ∙ e ∙ o_end))), end, id)
             | inr same ↦ (x, subst (λ (l : List JudgedRead). Contains l x) same.0 x_in, end, id)
           ]
       | inr new_is ↦ elim is_put [
@@ -194,7 +194,7 @@ module _ (claim : ClaimModel) (ops after : List Op) (old new : Option Op) (chang
     ])
 
     pub latest_after : (latest : ℕ) → reads.latest.0 ≤ latest → ((o : Op) → new ≡ Some o → IsJudgedRead o → o.begin.0 ≤ latest) → (r : Op) → Contains after r → IsJudgedRead r → r.begin.0 ≤ latest
-    latest_after latest later of_new r stands judges = elim (change.is r stands) [
+    latest_after latest later of_new r present judges = elim (change.is r present) [
       | inl among ↦ let up = are.latest r (change.in_before r (inl among)) judges in omega (arith, up, later)
       | inr is ↦ of_new r is judges
     ]
@@ -214,10 +214,10 @@ judged_after claim ops after old new change reads put ended judged last are numb
     let items : last.rows.items ≡ judged.rows.items = ap (λ (v : Vec JudgedRead Global). v.items) same_rows in
     record {
       rising = subst AreRising (sym items) (kept_rising ended judged rest_kept ended_rising);
-      there = λ r stands judges. subst (λ (l : List JudgedRead). HasRow l (end_number r) r.id) (sym items)
-          (there_after claim ops after old new change reads are number alone put.rows.items ended.rows.items judged.rows.items is_put ends_are rest_are r stands judges);
-      right = λ row stands. right_after claim ops after old new change reads are number alone put.rows.items ended.rows.items judged.rows.items is_put ends_are rest_are row
-          (subst (λ (l : List JudgedRead). Contains l row) items stands);
+      there = λ r present judges. subst (λ (l : List JudgedRead). HasRow l (end_number r) r.id) (sym items)
+          (there_after claim ops after old new change reads are number alone put.rows.items ended.rows.items judged.rows.items is_put ends_are rest_are r present judges);
+      right = λ row present. right_after claim ops after old new change reads are number alone put.rows.items ended.rows.items judged.rows.items is_put ends_are rest_are row
+          (subst (λ (l : List JudgedRead). Contains l row) items present);
       latest = let same : last.latest.0 ≡ put.latest.0 = ap (λ (m : Moment). m.0) (same_latest ∙ rest_kept.latest ∙ ends_kept.latest) in
           latest_after claim ops after old new change reads are number alone put.rows.items ended.rows.items judged.rows.items is_put ends_are rest_are last.latest.0 (omega (arith, same, later))
           (λ o is judges. let le = put_latest o is judges in omega (arith, same, le));

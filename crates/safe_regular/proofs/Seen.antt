@@ -24,14 +24,14 @@ use Rattle.safe_regular.proofs.Told.{writes_apart}
 module _ (r : Op) (ops others : List Op) (there : AreSeenIn r ops others) (back : AreSeenIn r others ops) where
   overlaps_in : OverlapsWrite ops r → OverlapsWrite others r
   overlaps_in any =
-      let (v, stands, write, over, same) = (there any.1 (any.0, any.2, any.3) any.4.0).over any.4.1 in
-      (stands.0, v, stands.1, stands.2, (write, over))
+      let (v, present, write, over, same) = (there any.1 (any.0, any.2, any.3) any.4.0).over any.4.1 in
+      (present.0, v, present.1, present.2, (write, over))
 
   returns_in : (initial : Value) → ReturnsLast initial ops r → ReturnsLast initial others r
   returns_in initial (inl l) = inl (
     l.0,
     record {
-      stands = (there l.0 l.1.stands l.1.write).before l.1.before;
+      present = (there l.0 l.1.present l.1.write).before l.1.before;
       write = l.1.write;
       before = l.1.before;
       last = all_from (λ v. IsWrite v → Precedes v r → v.begin.0 ≤ l.0.begin.0) others (λ v sv wv before.
@@ -46,8 +46,8 @@ module _ (r : Op) (ops others : List Op) (there : AreSeenIn r ops others) (back 
 
   pub regular_in : (claim : ClaimModel) → IsRegularRead claim ops r → IsRegularRead claim others r
   regular_in claim (inl any) =
-      let (v, stands, write, over, same) = (there any.1 (any.0, any.2, any.3) any.4.0).over any.4.1 in
-      inl (stands.0, v, stands.1, stands.2, (write, over, any.4.2 ∙ sym same))
+      let (v, present, write, over, same) = (there any.1 (any.0, any.2, any.3) any.4.0).over any.4.1 in
+      inl (present.0, v, present.1, present.2, (write, over, any.4.2 ∙ sym same))
   regular_in claim (inr last) = inr (returns_in claim.initial last)
 
 module _ (r : Op) (ops others : List Op) (there : AreSeenIn r ops others) (back : AreSeenIn r others ops) where
@@ -77,7 +77,7 @@ module _ (r : Op) (ops others : List Op) (there : AreSeenIn r ops others) (back 
   judged_alike claim = ap (λ (b : Bool). is_judged_read r && not b) (right_alike claim claim.kind)
 
 -- an edit that leaves a read alone
-module _ (claim : ClaimModel) (ops after : List Op) (old new : Option Op) (change : IsChangeOf claim ops after old new) (r : Op) (stands : Contains change.others r) (judged : IsJudgedRead r) (alone : LeavesAlone r old new) where
+module _ (claim : ClaimModel) (ops after : List Op) (old new : Option Op) (change : IsChangeOf claim ops after old new) (r : Op) (present : Contains change.others r) (judged : IsJudgedRead r) (alone : LeavesAlone r old new) where
   -- the read does not see a write that begins when it ends or later
   not_seen : (list few : List Op) → AreSequential list → IsReadAmong list r → (w : Op) → Contains list w → IsWrite w → end_number r ≤ w.begin.0 → IsSeenIn r few w
   not_seen list few apart among w sw ww late = record {
@@ -92,10 +92,10 @@ module _ (claim : ClaimModel) (ops after : List Op) (old new : Option Op) (chang
   AfterAmong = IsReadAmong after r
 
   among_before : IsReadAmong ops r
-  among_before = read_among claim ops change.apart_before r (change.in_before r (inl stands)) judged
+  among_before = read_among claim ops change.apart_before r (change.in_before r (inl present)) judged
 
   among_after : IsReadAmong after r
-  among_after = read_among claim after change.apart_after r (change.in_after r (inl stands)) judged
+  among_after = read_among claim after change.apart_after r (change.in_after r (inl present)) judged
 
   -- where a write begins before the read ends, another of its beginning that does not precede the read overlaps it
   other_over : (o n : Op) → o.begin.0 ≡ n.begin.0 → ¬ Precedes n r → ((w : Op) → w.begin.0 < end_number r → ¬ Precedes r w) → o.begin.0 < end_number r → Overlaps n r
@@ -105,7 +105,7 @@ module _ (claim : ClaimModel) (ops after : List Op) (old new : Option Op) (chang
   seen_after w sw ww = elim (change.was w sw) [
     | inl among ↦ itself after w (change.in_after w (inl among)) ww
     | inr is ↦ elim alone [
-      | inl behind ↦ not_seen ops after (writes_apart claim ops change.apart_before) among_before w sw ww (subst (BeginsAfterRead r) is behind.0 ww)
+      | inl following ↦ not_seen ops after (writes_apart claim ops change.apart_before) among_before w sw ww (subst (BeginsAfterRead r) is following.0 ww)
       | inr one ↦
           let same : one.o ≡ w = (let e = one.old_is in cc) in
           record {
@@ -126,7 +126,7 @@ module _ (claim : ClaimModel) (ops after : List Op) (old new : Option Op) (chang
   seen_before w sw ww = elim (change.is w sw) [
     | inl among ↦ itself ops w (change.in_before w (inl among)) ww
     | inr is ↦ elim alone [
-      | inl behind ↦ not_seen after ops (writes_apart claim after change.apart_after) among_after w sw ww (subst (BeginsAfterRead r) is behind.1 ww)
+      | inl following ↦ not_seen after ops (writes_apart claim after change.apart_after) among_after w sw ww (subst (BeginsAfterRead r) is following.1 ww)
       | inr one ↦
           let same : one.n ≡ w = (let e = one.new_is in cc) in
           record {

@@ -20,10 +20,10 @@ use Rattle.safe_regular.specs.Held.{AreOneWriters, CanJudge, HasReadRoom, HasRoo
 use Rattle.safe_regular.specs.RowItems.{AreItemsOf, IsChanged, IsCoverBefore, IsCoverBeforeNew, IsRenewed, MayBeChanged}
 use Rattle.safe_regular.specs.Writes.{AreWrites, HasPlaceIn, ReservesOnlyForWrite, IsAddedOf}
 use Rattle.safe_regular.specs.Change.{IsAmong, IsChangeOf, more_by}
-use Rattle.safe_regular.proofs.Changed.{others_of, other_stands, other_apart, before_cases, other_after, new_stands, after_cases, goes, comes}
-use Rattle.intervals.proofs.Ids.{found_stands}
+use Rattle.safe_regular.proofs.Changed.{others_of, other_present, other_apart, before_cases, other_after, new_present, after_cases, goes, comes}
+use Rattle.intervals.proofs.Ids.{found_present}
 use Rattle.safe_regular.proofs.Edited.{apart_kept}
-use Rattle.safe_regular.proofs.Kept.{front_stays, own_cover_stands}
+use Rattle.safe_regular.proofs.Kept.{front_stays, own_cover_present}
 use Rattle.safe_regular.proofs.Laid.{items_after, place_is_free, place_is_taken}
 use Rattle.safe_regular.proofs.Told.{writes_apart}
 
@@ -91,24 +91,24 @@ module _ (claim : ClaimModel) (ops : List Op) (edit : Edit) (apart : AreOneWrite
   was_among x h = subst (λ (o : Option Op). IsAmong others o x) (sym old_is) (before_cases ops (edit_id edit) apart.kept.ids x h)
 
   in_before : (x : Op) → IsAmong others old x → Contains ops x
-  in_before x (inl h) = other_stands ops (edit_id edit) x h
-  in_before x (inr e) = (found_stands ops (edit_id edit) x (sym old_is ∙ e)).0
+  in_before x (inl h) = other_present ops (edit_id edit) x h
+  in_before x (inr e) = (found_present ops (edit_id edit) x (sym old_is ∙ e)).0
 
   is_among : (x : Op) → Contains listed x → IsAmong others new x
   is_among x h = subst (λ (o : Option Op). IsAmong others o x) (sym new_is) (after_cases ops edit apart.kept.ids (edit_accepted claim ops edit accepted) x (subst (λ (l : List Op). Contains l x) listed_is h))
 
   pub in_listed : (x : Op) → IsAmong others new x → Contains listed x
   in_listed x (inl h) = subst (λ (l : List Op). Contains l x) (sym listed_is) (other_after ops edit x h)
-  in_listed x (inr e) = subst (λ (l : List Op). Contains l x) (sym listed_is) (new_stands ops edit x (sym new_is ∙ e)).0
+  in_listed x (inr e) = subst (λ (l : List Op). Contains l x) (sym listed_is) (new_present ops edit x (sym new_is ∙ e)).0
 
   other_than : (x y : Op) → Contains others x → has_id (edit_id edit) y ≡ true → ¬ (x ≡ y)
   other_than x y among t same = both_ways (has_id (edit_id edit) x) (other_apart ops (edit_id edit) x among) (subst (λ (o : Op). has_id (edit_id edit) o ≡ true) (sym same) t)
 
   not_old : (x y : Op) → Contains others x → old ≡ Some y → ¬ (x ≡ y)
-  not_old x y among e = other_than x y among (found_stands ops (edit_id edit) y (sym old_is ∙ e)).1
+  not_old x y among e = other_than x y among (found_present ops (edit_id edit) y (sym old_is ∙ e)).1
 
   not_new : (x y : Op) → Contains others x → new ≡ Some y → ¬ (x ≡ y)
-  not_new x y among e = other_than x y among (new_stands ops edit y (sym new_is ∙ e)).1
+  not_new x y among e = other_than x y among (new_present ops edit y (sym new_is ∙ e)).1
 
   -- what the edit does to the operations
   pub is_change : IsChangeOf claim ops listed old new
@@ -147,7 +147,7 @@ module _ (claim : ClaimModel) (ops listed : List Op) (old new : Option Op) (chan
       taken = place_is_taken claim ops old change.apart_before (λ o e. change.in_before o (inr e)) line.items are;
       apart = λ item item_is. place_is_free claim ops change.others listed old new change.apart_before change.apart_after change.was change.in_after change.not_new item item_is line.items are;
       room = room;
-      kept = own_cover_stands claim ops change.others listed old new change.apart_before change.apart_after change.was change.in_before change.is change.in_after line.items are;
+      kept = own_cover_present claim ops change.others listed old new change.apart_before change.apart_after change.was change.in_before change.is change.in_after line.items are;
     }
 
     pub laid_after : (left come : Option RowItem) → IsCoverBefore claim listed None old left → IsCoverBeforeNew claim listed old new come

@@ -26,7 +26,7 @@ use Rattle.intervals.proofs.Ids.{one_of_id}
 module _ (Fits : Op → Type 0) (Q : Moment → Type 0) (says : (w : Op) → Fits w → Q w.begin) (met : (w : Op) → Q w.begin → Fits w)
     (ops : List Op) (distinct : HasDistinctIds ops) (at : Moment → Option OpId) (index : IsIndex ops at) where
   named : (w : Op) (id : OpId) → Contains ops w → w.id ≡ id → op_of ops id ≡ Some w
-  named w id stands own = subst (λ (i : OpId). op_of ops i ≡ Some w) own (found_by_id ops w distinct stands)
+  named w id present own = subst (λ (i : OpId). op_of ops i ≡ Some w) own (found_by_id ops w distinct present)
 
   pub last_at : (found : Option (Moment × OpId))
       → MatchOption found ((m : Moment) → Q m → at m ≡ None) (λ f. Q f.0 × (at f.0 ≡ Some f.1) × ((m : Moment) → f.0.0 < m.0 → Q m → at m ≡ None))
@@ -36,7 +36,7 @@ module _ (Fits : Op → Type 0) (Q : Moment → Type 0) (says : (w : Op) → Fit
       let w = index.back m id is.1 in
       subst (λ (o : Option Op). IsLastOf Fits ops o) (sym (named w.0 id w.1 w.4))
       (last_indexed Fits Q says met ops at index (one_of_id ops distinct) m id w.0 w.1 w.4
-      (record { here = is.0; stands = is.1; last = λ n q lt. is.2 n lt q }))
+      (record { here = is.0; present = is.1; last = λ n q lt. is.2 n lt q }))
 
   pub first_at : (found : Option (Moment × OpId))
       → MatchOption found ((m : Moment) → Q m → at m ≡ None) (λ f. Q f.0 × (at f.0 ≡ Some f.1) × ((m : Moment) → Q m → m.0 < f.0.0 → at m ≡ None))
@@ -46,7 +46,7 @@ module _ (Fits : Op → Type 0) (Q : Moment → Type 0) (says : (w : Op) → Fit
       let w = index.back m id is.1 in
       subst (λ (o : Option Op). IsFirstWriteOf Fits ops o) (sym (named w.0 id w.1 w.4))
       (first_indexed Fits Q says met ops at index (one_of_id ops distinct) m id w.0 w.1 w.4
-      (record { here = is.0; stands = is.1; first = is.2 }))
+      (record { here = is.0; present = is.1; first = is.2 }))
 
 -- the look-ups by beginning
 module _ (ops : List Op) (writes : Writes) (are : AreWrites ops writes) (distinct : HasDistinctIds ops) (found : Option (Moment × OpId)) where
@@ -75,7 +75,7 @@ moments_apart a b ne = ne_eqb a.0 b.0 (λ e. ne (sym e))
 -- a map with the same ids is an index of the same writes
 index_same : (ops : List Op) (at new : Moment → Option OpId) → ((m : Moment) → new m ≡ at m) → IsIndex ops at → IsIndex ops new
 index_same ops at new same index = record {
-  there = λ w stands write. same w.begin ∙ index.there w stands write;
+  there = λ w present write. same w.begin ∙ index.there w present write;
   back = λ m id e. index.back m id (sym (same m) ∙ e);
 }
 
@@ -84,7 +84,7 @@ same_turned others ops are = record { kept = are.only; only = are.kept }
 
 pub writes_of_same : (others ops : List Op) (writes : Writes) → HaveSameWrites others ops → AreWrites others writes → AreWrites ops writes
 writes_of_same others ops writes same are = record {
-  there = λ w stands write. are.there w (same.only w write stands) write;
+  there = λ w present write. are.there w (same.only w write present) write;
   back = λ m id e. let w = are.back m id e in (w.0, same.kept w.0 w.2 w.1, w.2, w.3, w.4);
 }
 
@@ -104,10 +104,10 @@ writes_alike ops old begins alike are = index_same ops (id_by_begin old) (id_by_
 
 module _ (others : List Op) (op : Op) (ops : List Op) (is : IsAdded others op ops) (old : Writes) (begins : OrderedIndex) where
   no_more : ¬ IsWrite op → HaveSameWrites others ops
-  no_more read = record { kept = is.kept; only = λ w write stands. by_cases w write (is.only w write stands) }
+  no_more read = record { kept = is.kept; only = λ w write present. by_cases w write (is.only w write present) }
     where
       by_cases : (w : Op) → IsWrite w → Contains others w ⊎ (w ≡ op) → Contains others w
-      by_cases w write (inl stands) = stands
+      by_cases w write (inl present) = present
       by_cases w write (inr e) = absurd (read (subst (λ (o : Op). IsWrite o) e write))
 
   with_at : (t : Bool) → is_write op ≡ t → AreAlikeBeside (cond t (Some (spot_of Nil op.begin)) None) old.begins begins
@@ -141,7 +141,7 @@ writes_stay others before after old new alike gone come writes index = record { 
     at m = id_by_begin writes m
 
     there_after : (w : Op) → Contains after w → IsWrite w → at w.begin ≡ Some w.id
-    there_after w stands write = by_cases (come.only w write stands)
+    there_after w present write = by_cases (come.only w write present)
       where
         by_cases : Contains others w ⊎ (w ≡ new) → at w.begin ≡ Some w.id
         by_cases (inl left) = index.there w (gone.kept w write left) write
@@ -150,7 +150,7 @@ writes_stay others before after old new alike gone come writes index = record { 
             rw e (rw (← alike.begin) (rw (← alike.id) was))
 
     back_after : (m : Moment) (id : OpId) → at m ≡ Some id → (w : Op) × Contains after w × IsWrite w × (w.begin ≡ m) × (w.id ≡ id)
-    back_after m id e = let (w, stands, write, at_m, of_id) = index.back m id e in by_origin w write at_m of_id (gone.only w write stands)
+    back_after m id e = let (w, present, write, at_m, of_id) = index.back m id e in by_origin w write at_m of_id (gone.only w write present)
       where
         by_origin : (w : Op) → IsWrite w → w.begin ≡ m → w.id ≡ id → Contains others w ⊎ (w ≡ old) → (w : Op) × Contains after w × IsWrite w × (w.begin ≡ m) × (w.id ≡ id)
         by_origin w write at_m of_id (inl left) = (w, come.kept w write left, write, at_m, of_id)
@@ -201,7 +201,7 @@ none_held_in before others old new prepared writes (o, n, is_old, is_new, alike)
     let one : Some (spot_of Nil n.begin) ≡ Some spot = is_spot_one (Some (spot_of Nil n.begin)) spot (rw alike.new_writes at awaited) in
     let here : spot_of Nil n.begin ≡ spot = cc in
     let there : IsAdded others o before = subst (λ (x : Option Op). IsAddedOf others x before) is_old gone in
-    let stands : id_by_begin writes n.begin ≡ Some o.id = subst (λ (m : Moment). id_by_begin writes m ≡ Some o.id) alike.begin (are.there o (there.added alike.old_writes) alike.old_writes) in
-    let some : id_at writes.begins spot ≡ Some o.id = subst (λ (s : Spot). id_at writes.begins s ≡ Some o.id) here stands in
+    let present : id_by_begin writes n.begin ≡ Some o.id = subst (λ (m : Moment). id_by_begin writes m ≡ Some o.id) alike.begin (are.there o (there.added alike.old_writes) alike.old_writes) in
+    let some : id_at writes.begins spot ≡ Some o.id = subst (λ (s : Spot). id_at writes.begins s ≡ Some o.id) here present in
     let none : id_at writes.begins spot ≡ None = ap id_if_there held in
     absurd (cc)

@@ -47,8 +47,8 @@ number_of_read op judged = rw (not-true (is_write op) (and_parts (not (is_write 
 
 module _ (claim : ClaimModel) (ops : List Op) (apart : AreOneWriters claim ops) where
   number_low : (op : Op) → Contains ops op → item_number op ≤ 4611686018427387903
-  number_low op stands =
-      let low : IsWithinMoments op = All-contains IsWithinMoments ops op (all_low claim ops apart) stands in
+  number_low op present =
+      let low : IsWithinMoments op = All-contains IsWithinMoments ops op (all_low claim ops apart) present in
       elim (is_write op) as (λ b. cond b op.begin.0 (end_number op) ≤ 4611686018427387903) [ true ↦ low.begin | false ↦ low.end ]
 
   -- a judged read does not end where another operation begins
@@ -84,12 +84,12 @@ module _ (claim : ClaimModel) (ops : List Op) (apart : AreOneWriters claim ops) 
   -- there is at most one first write from a moment on
   pub next_told : (n : ℕ) (p q : Option Op) → IsFirstWriteOf (BeginsFrom n) ops p → IsFirstWriteOf (BeginsFrom n) ops q → p ≡ q
   next_told n None None p_is q_is = refl
-  next_told n None (Some q) p_is q_is = absurd (p_is q q_is.stands q_is.write q_is.fits)
-  next_told n (Some p) None p_is q_is = absurd (q_is p p_is.stands p_is.write p_is.fits)
+  next_told n None (Some q) p_is q_is = absurd (p_is q q_is.present q_is.write q_is.fits)
+  next_told n (Some p) None p_is q_is = absurd (q_is p p_is.present p_is.write p_is.fits)
   next_told n (Some p) (Some q) p_is q_is =
-      let le : p.begin.0 ≤ q.begin.0 = p_is.first q q_is.stands q_is.write q_is.fits in
-      let ge : q.begin.0 ≤ p.begin.0 = q_is.first p p_is.stands p_is.write p_is.fits in
-      ap Some (writes_apart.one p q p_is.stands q_is.stands p_is.write q_is.write (omega (arith, le, ge)))
+      let le : p.begin.0 ≤ q.begin.0 = p_is.first q q_is.present q_is.write q_is.fits in
+      let ge : q.begin.0 ≤ p.begin.0 = q_is.first p p_is.present p_is.write p_is.fits in
+      ap Some (writes_apart.one p q p_is.present q_is.present p_is.write q_is.write (omega (arith, le, ge)))
 
   -- the spot of the item of an operation or of the initial value
   pub place_of_read : (r : Op) → IsJudgedRead r → spot_of_item (read_item claim r) ≡ place_in claim r
@@ -100,53 +100,53 @@ module _ (claim : ClaimModel) (ops : List Op) (apart : AreOneWriters claim ops) 
 
   -- an item is at the spot of the initial value or of an operation that has an item
   pub of_which : (x : RowItem) → IsOperationItem claim ops x → (spot_of_item x ≡ initial_place claim) ⊎ ((o : Op) × Contains ops o × IsLaid o × (spot_of_item x ≡ place_in claim o))
-  of_which x (inl is) = inr (is.read, is.stands, inr is.judged, ap spot_of_item is.is ∙ place_of_read is.read is.judged)
-  of_which x (inr (inl is)) = inr (is.write, is.stands, inl is.writes, ap spot_of_item is.is ∙ place_of_cover is.write is.next is.writes)
+  of_which x (inl is) = inr (is.read, is.present, inr is.judged, ap spot_of_item is.is ∙ place_of_read is.read is.judged)
+  of_which x (inr (inl is)) = inr (is.write, is.present, inl is.writes, ap spot_of_item is.is ∙ place_of_cover is.write is.next is.writes)
   of_which x (inr (inr is)) = inl (ap spot_of_item is.is)
 
   -- an operation has only one item
   of_read : (x : RowItem) (o : Op) → IsOperationItem claim ops x → Contains ops o → IsJudgedRead o → spot_of_item x ≡ place_in claim o → x ≡ read_item claim o
-  of_read x o (inl is) stands judged e =
+  of_read x o (inl is) present judged e =
       let number = ap (λ (s : Spot). s.moment.0) (sym (ap spot_of_item is.is ∙ place_of_read is.read is.judged) ∙ e) in
-      let same : is.read ≡ o = told_by_count is.read o is.stands stands (inr is.judged) (inr judged) number in
+      let same : is.read ≡ o = told_by_count is.read o is.present present (inr is.judged) (inr judged) number in
       is.is ∙ ap (read_item claim) same
-  of_read x o (inr (inl is)) stands judged e =
+  of_read x o (inr (inl is)) present judged e =
       let number = ap (λ (s : Spot). s.moment.0) (sym (ap spot_of_item is.is ∙ place_of_cover is.write is.next is.writes) ∙ e) in
-      let same : is.write ≡ o = told_by_count is.write o is.stands stands (inl is.writes) (inr judged) number in
+      let same : is.write ≡ o = told_by_count is.write o is.present present (inl is.writes) (inr judged) number in
       absurd (read_is_no_write o (subst IsWrite same is.writes) judged)
-  of_read x o (inr (inr is)) stands judged e =
+  of_read x o (inr (inr is)) present judged e =
       let number = ap (λ (s : Spot). s.moment.0) (sym (ap spot_of_item is.is) ∙ e) in
-      let low = number_low o stands in
+      let low = number_low o present in
       absurd (omega (arith, number, low))
 
   of_write : (x : RowItem) (o : Op) (next : Option Op) → IsOperationItem claim ops x → Contains ops o → IsWrite o → IsFirstWriteOf (BeginsFrom (suc o.begin.0)) ops next → spot_of_item x ≡ place_in claim o → x ≡ cover_item claim o next
-  of_write x o next (inl is) stands write next_is e =
+  of_write x o next (inl is) present write next_is e =
       let number = ap (λ (s : Spot). s.moment.0) (sym (ap spot_of_item is.is ∙ place_of_read is.read is.judged) ∙ e) in
-      let same : is.read ≡ o = told_by_count is.read o is.stands stands (inr is.judged) (inl write) number in
+      let same : is.read ≡ o = told_by_count is.read o is.present present (inr is.judged) (inl write) number in
       absurd (read_is_no_write o write (subst IsJudgedRead same is.judged))
-  of_write x o next (inr (inl is)) stands write next_is e =
+  of_write x o next (inr (inl is)) present write next_is e =
       let number = ap (λ (s : Spot). s.moment.0) (sym (ap spot_of_item is.is ∙ place_of_cover is.write is.next is.writes) ∙ e) in
-      let same : is.write ≡ o = told_by_count is.write o is.stands stands (inl is.writes) (inl write) number in
+      let same : is.write ≡ o = told_by_count is.write o is.present present (inl is.writes) (inl write) number in
       let nexts : is.next ≡ next = next_told (suc o.begin.0) is.next next (subst (λ (w : Op). IsFirstWriteOf (BeginsFrom (suc w.begin.0)) ops is.next) same is.next_is) next_is in
       is.is ∙ ap (λ (w : Op). cover_item claim w is.next) same ∙ ap (cover_item claim o) nexts
-  of_write x o next (inr (inr is)) stands write next_is e =
+  of_write x o next (inr (inr is)) present write next_is e =
       let number = ap (λ (s : Spot). s.moment.0) (sym (ap spot_of_item is.is) ∙ e) in
-      let low = number_low o stands in
+      let low = number_low o present in
       absurd (omega (arith, number, low))
 
   of_initial : (x : RowItem) (next : Option Op) → IsOperationItem claim ops x → IsFirstWriteOf (BeginsFrom 0) ops next → spot_of_item x ≡ initial_place claim → x ≡ initial_item claim next
   of_initial x next (inl is) next_is e =
       let number = ap (λ (s : Spot). s.moment.0) (sym (ap spot_of_item is.is ∙ place_of_read is.read is.judged) ∙ e) in
-      let low = number_low is.read is.stands in
+      let low = number_low is.read is.present in
       absurd (omega (arith, number, low))
   of_initial x next (inr (inl is)) next_is e =
       let number = ap (λ (s : Spot). s.moment.0) (sym (ap spot_of_item is.is ∙ place_of_cover is.write is.next is.writes) ∙ e) in
-      let low = number_low is.write is.stands in
+      let low = number_low is.write is.present in
       absurd (omega (arith, number, low))
   of_initial x next (inr (inr is)) next_is e = is.is ∙ ap (initial_item claim) (next_told 0 is.next next is.next_is next_is)
 
   -- items at one spot are the same
   pub items_told : (x y : RowItem) → IsOperationItem claim ops x → IsOperationItem claim ops y → spot_of_item x ≡ spot_of_item y → x ≡ y
-  items_told x y x_is (inl is) e = of_read x is.read x_is is.stands is.judged (e ∙ ap spot_of_item is.is ∙ place_of_read is.read is.judged) ∙ sym is.is
-  items_told x y x_is (inr (inl is)) e = of_write x is.write is.next x_is is.stands is.writes is.next_is (e ∙ ap spot_of_item is.is ∙ place_of_cover is.write is.next is.writes) ∙ sym is.is
+  items_told x y x_is (inl is) e = of_read x is.read x_is is.present is.judged (e ∙ ap spot_of_item is.is ∙ place_of_read is.read is.judged) ∙ sym is.is
+  items_told x y x_is (inr (inl is)) e = of_write x is.write is.next x_is is.present is.writes is.next_is (e ∙ ap spot_of_item is.is ∙ place_of_cover is.write is.next is.writes) ∙ sym is.is
   items_told x y x_is (inr (inr is)) e = of_initial x is.next x_is is.next_is (e ∙ ap spot_of_item is.is) ∙ sym is.is

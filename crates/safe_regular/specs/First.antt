@@ -6,7 +6,7 @@ use Rattle.intervals.specs.Judging.{is_wrong_read, end_number}
 
 -- r is a wrong read of the list, and no wrong read of the list ended earlier
 pub record IsFirstEnded (claim : ClaimModel) (ops : List Op) (r : Op) : Type 0 where
-  pub stands : Contains ops r
+  pub present : Contains ops r
   pub wrong : IsTrue (is_wrong_read claim ops r)
   pub first : (other : Op) → Contains ops other → IsTrue (is_wrong_read claim ops other) → end_number r ≤ end_number other
 

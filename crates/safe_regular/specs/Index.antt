@@ -13,11 +13,11 @@ pub record IsIndex (ops : List Op) (at : Moment → Option OpId) : Type 0 where
 -- m is the last of the moments that have property Q and an id, and its id is the given one
 pub record IsLastAt (Q : Moment → Type 0) (at : Moment → Option OpId) (m : Moment) (id : OpId) : Type 0 where
   pub here : Q m
-  pub stands : at m ≡ Some id
+  pub present : at m ≡ Some id
   pub last : (n : Moment) → Q n → m.0 < n.0 → at n ≡ None
 
 -- m is the first of the moments that have property Q and an id, and its id is the given one
 pub record IsFirstAt (Q : Moment → Type 0) (at : Moment → Option OpId) (m : Moment) (id : OpId) : Type 0 where
   pub here : Q m
-  pub stands : at m ≡ Some id
+  pub present : at m ≡ Some id
   pub first : (n : Moment) → Q n → n.0 < m.0 → at n ≡ None

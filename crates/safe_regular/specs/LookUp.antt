@@ -18,14 +18,14 @@ BeginsAfter moment w = moment < w.begin.0
 
 -- a write of the list with property P, and no write of the list with P begins later
 pub record IsLastWrite (P : Op → Type 0) (ops : List Op) (found : Op) : Type 0 where
-  pub stands : Contains ops found
+  pub present : Contains ops found
   pub write : IsWrite found
   pub fits : P found
   pub last : (w : Op) → Contains ops w → IsWrite w → P w → w.begin.0 ≤ found.begin.0
 
 -- a write of the list with property P, and no write of the list with P begins earlier
 pub record IsFirstWrite (P : Op → Type 0) (ops : List Op) (found : Op) : Type 0 where
-  pub stands : Contains ops found
+  pub present : Contains ops found
   pub write : IsWrite found
   pub fits : P found
   pub first : (w : Op) → Contains ops w → IsWrite w → P w → found.begin.0 ≤ w.begin.0

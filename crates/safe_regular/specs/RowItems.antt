@@ -95,14 +95,14 @@ initial_item claim next = record {
 -- x is the item of a judged read of the list
 pub record IsReadItem (claim : ClaimModel) (ops : List Op) (x : RowItem) : Type 0 where
   pub read : Op
-  pub stands : Contains ops read
+  pub present : Contains ops read
   pub judged : IsJudgedRead read
   pub is : x ≡ read_item claim read
 
 -- x is the item of a write of the list, made with the next write to begin, if there is one
 pub record IsCoverItem (claim : ClaimModel) (ops : List Op) (x : RowItem) : Type 0 where
   pub write : Op
-  pub stands : Contains ops write
+  pub present : Contains ops write
   pub writes : IsWrite write
   pub next : Option Op
   pub next_is : IsFirstWriteOf (BeginsAfter write.begin.0) ops next
@@ -230,7 +230,7 @@ pub record KeepsItsCover (kind : Kind) (old new : Option Op) : Type 0 where
 pub record IsLaidAlready (claim : ClaimModel) (ops : List Op) (old new : Option Op) (items : List RowItem) : Type 0 where
   pub item : RowItem
   pub is : IsItemOf claim ops new (Some item)
-  pub stands : Contains items item
+  pub present : Contains items item
   pub place : optional_item_spot claim old ≡ Some (spot_of_item item)
 
 -- the tree is ready for the exchange of the old operation's item for the new one's: the old item is there, nothing else

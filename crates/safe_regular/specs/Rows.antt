@@ -30,7 +30,7 @@ EndFrom number rows place = (k : ℕ) (d : JudgedRead) → place ≤ k → k < l
 pub record IsPlaceOf (number : ℕ) (rows : List JudgedRead) (place : ℕ) : Type 0 where
   pub within : place ≤ length rows
   pub before : (k : ℕ) (d : JudgedRead) → k < place → (slice_index_or rows k d).end.0 < number
-  pub behind : EndFrom number rows place
+  pub following : EndFrom number rows place
 
 -- the test that the read of the row's id and end is wrong; false where no such read stands
 abbrev pub is_wrong_row : ClaimModel → List Op → JudgedRead → Bool

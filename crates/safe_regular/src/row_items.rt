@@ -244,7 +244,7 @@ fn is_last_unfinished(writes: &Writes, table: &OpTable, op: &Op) -> bool
     ensures { AreWrites table.now.ops writes.now → HasDistinctIds table.now.ops → result ≡ true
         → IsWrite op.now × (op.now.end ≡ None) × NoneFits (BeginsAfter op.now.begin.0) table.now.ops }
 {
-    is_unfinished_write(op) && has_none_behind(writes, table, op.begin)
+    is_unfinished_write(op) && has_none_after(writes, table, op.begin)
 }
 
 fn is_unfinished_write(op: &Op) -> bool
@@ -253,7 +253,7 @@ fn is_unfinished_write(op: &Op) -> bool
     op.is_write() && op.end.is_none()
 }
 
-fn has_none_behind(writes: &Writes, table: &OpTable, moment: Moment) -> bool
+fn has_none_after(writes: &Writes, table: &OpTable, moment: Moment) -> bool
     ensures { AreWrites table.now.ops writes.now → HasDistinctIds table.now.ops → result ≡ true → NoneFits (BeginsAfter moment.0) table.now.ops }
 {
     match first_after(writes, table, moment) {

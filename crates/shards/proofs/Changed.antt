@@ -30,9 +30,6 @@ same_tests false true P first second = first.1 (second.0 refl)
 through : {a : Bool} {P Q : Type 0} → IsTrue a ↔ P → IsTrue a ↔ Q → P ↔ Q
 through {a = a} {P = P} {Q = Q} first second = (λ p. second.0 (first.1 p), λ q. first.0 (second.1 q))
 
-flipped : {P Q : Type 0} → P ↔ Q → Q ↔ P
-flipped {P = P} {Q = Q} same = (same.1, same.0)
-
 both : {a : Bool} {P Q : Type 0} → IsTrue a ↔ P → P ↔ Q → IsTrue a ↔ Q
 both {a = a} {P = P} {Q = Q} test same = (λ t. same.0 (test.0 t), λ q. test.1 (same.1 q))
 

@@ -41,18 +41,6 @@ pub entered_by : (feeder : ℕ) (own own' : List (List NumberedEntry)) (seen see
     → passed feeder seen' own' ≡ with_own (passed feeder seen own) at known
 entered_by feeder own own' seen seen' at known own_is seen_is = λ i. passed feeder (seen_is i) (own_is i)
 
-nothing_in : (shards at : ℕ) → own_in (replicate {A = List NumberedEntry} shards []) at ≡ []
-nothing_in zero at = refl
-nothing_in (suc shards) zero = refl
-nothing_in (suc shards) (suc at) = nothing_in shards at
-
--- no own entries are in step with any farthest ones
-pub in_step_new : (shards : ℕ) (own : List (List NumberedEntry)) (farthest : List (Option NumberedEntry)) → own ≡ replicate shards [] → length own ≡ length farthest → AreInStep own farthest
-in_step_new shards own farthest none many = record {
-  many = many;
-  each = λ at. rw (none, nothing_in shards at) (record { rises = tt; reached = tt });
-}
-
 last_push : (xs : List NumberedEntry) (x : NumberedEntry) → slice_get (xs ++ x ∷ []) (length xs) ≡ Some x
 last_push [] x = refl
 last_push (y ∷ ys) x = last_push ys x

@@ -11,20 +11,20 @@ holds_of : {X : Type 0} (P : X → Type 0) (option : Option X) (x : X) → optio
 holds_of P option x is holds = rw is at holds
 
 -- a journal is not behind a pass that it is in keeping with
-pub behind_apart : (at : ℕ) (pass : PassModel) (journal : List Entry) (seen : ℕ) → IsBehind at pass journal seen → ¬ IsInKeeping at pass journal
-behind_apart at pass journal seen (inl (known, is, lacks, number)) keeping = lacks (holds_of _ _ known is keeping.farthest)
-behind_apart at pass journal seen (inr (farthest, inl (known, is, lacks, number))) keeping = lacks (holds_of _ _ known is keeping.last)
-behind_apart at pass journal seen (inr (farthest, inr (last, differs, number))) keeping = differs keeping.count
+pub following_apart : (at : ℕ) (pass : PassModel) (journal : List Entry) (seen : ℕ) → IsBehind at pass journal seen → ¬ IsInKeeping at pass journal
+following_apart at pass journal seen (inl (known, is, lacks, number)) keeping = lacks (holds_of _ _ known is keeping.farthest)
+following_apart at pass journal seen (inr (farthest, inl (known, is, lacks, number))) keeping = lacks (holds_of _ _ known is keeping.last)
+following_apart at pass journal seen (inr (farthest, inr (last, differs, number))) keeping = differs keeping.count
 
 -- one number at most shows that a journal is behind a pass
-pub behind_once : (at : ℕ) (pass : PassModel) (journal : List Entry) (a b : ℕ) → IsBehind at pass journal a → IsBehind at pass journal b → a ≡ b
-behind_once at pass journal a b (inl (known, is, lacks, number)) (inl (other, is', lacks', number')) = cc
-behind_once at pass journal a b (inl (known, is, lacks, number)) (inr (farthest, rest)) = absurd (lacks (holds_of _ _ known is farthest))
-behind_once at pass journal a b (inr (farthest, rest)) (inl (known, is, lacks, number)) = absurd (lacks (holds_of _ _ known is farthest))
-behind_once at pass journal a b (inr (farthest, inl (known, is, lacks, number))) (inr (farthest', inl (other, is', lacks', number'))) = cc
-behind_once at pass journal a b (inr (farthest, inl (known, is, lacks, number))) (inr (farthest', inr (last, differs, number'))) = absurd (lacks (holds_of _ _ known is last))
-behind_once at pass journal a b (inr (farthest, inr (last, differs, number))) (inr (farthest', inl (known, is, lacks, number'))) = absurd (lacks (holds_of _ _ known is last))
-behind_once at pass journal a b (inr (farthest, inr (last, differs, number))) (inr (farthest', inr (last', differs', number'))) = cc
+pub after_once : (at : ℕ) (pass : PassModel) (journal : List Entry) (a b : ℕ) → IsBehind at pass journal a → IsBehind at pass journal b → a ≡ b
+after_once at pass journal a b (inl (known, is, lacks, number)) (inl (other, is', lacks', number')) = cc
+after_once at pass journal a b (inl (known, is, lacks, number)) (inr (farthest, rest)) = absurd (lacks (holds_of _ _ known is farthest))
+after_once at pass journal a b (inr (farthest, rest)) (inl (known, is, lacks, number)) = absurd (lacks (holds_of _ _ known is farthest))
+after_once at pass journal a b (inr (farthest, inl (known, is, lacks, number))) (inr (farthest', inl (other, is', lacks', number'))) = cc
+after_once at pass journal a b (inr (farthest, inl (known, is, lacks, number))) (inr (farthest', inr (last, differs, number'))) = absurd (lacks (holds_of _ _ known is last))
+after_once at pass journal a b (inr (farthest, inr (last, differs, number))) (inr (farthest', inl (known, is, lacks, number'))) = absurd (lacks (holds_of _ _ known is last))
+after_once at pass journal a b (inr (farthest, inr (last, differs, number))) (inr (farthest', inr (last', differs', number'))) = cc
 
 -- the later entry in a shard is the later of the two lists' ones there
 pub farthest-farther_each : (mine others : List (Option NumberedEntry)) (at : ℕ) → length mine ≡ length others →

@@ -60,8 +60,8 @@ live plan pass pass' register (Err fault) held of_plan here standing of_shard se
 refusal : (plan : Plan) (pass : PassModel) (register : ℕ) (held : ShardModel) → IsPassOf plan pass → register < length plan.claims → held.at ≡ register % plan.shards
     → IsJournalOf plan held.at held.journal
     → (fault : ShardFault) → IsStateRefusal held.at pass held.journal fault → IsRefusal plan pass register fault
-refusal plan pass register held of_plan known here of_shard (JournalBehind shard seen found) (at_is, found_is, behind) =
-    (of_plan, known, at_is ∙ here, inr (held.journal, rw at_is of_shard, found_is, rw at_is behind))
+refusal plan pass register held of_plan known here of_shard (JournalBehind shard seen found) (at_is, found_is, following) =
+    (of_plan, known, at_is ∙ here, inr (held.journal, rw at_is of_shard, found_is, rw at_is following))
 refusal plan pass register held of_plan known here of_shard Memory keeping = (of_plan, known, (held.journal, rw here at of_shard, rw here at keeping))
 refusal plan pass register held of_plan known here of_shard UnknownRegister h = absurd h
 refusal plan pass register held of_plan known here of_shard ForeignPass h = absurd h

@@ -12,7 +12,7 @@ use Rattle.shards.specs.Plan.{Plan}
 use Rattle.shards.specs.Pass.{PassModel, IsBehind, IsInKeeping}
 use Rattle.shards.specs.Merge.{IsStranger, numbered}
 use Rattle.shards.specs.Closing.{ShardModel, AreComplete, AreFit, Fits, HasNoStranger, IsClosingFault, IsFirstMissing, IsFirstStranger, IsFirstUnfit, IsFirstWithStranger, IsUnfit}
-use Rattle.shards.proofs.Knowing.{behind_apart, behind_once}
+use Rattle.shards.proofs.Knowing.{following_apart, after_once}
 use Rattle.shards.proofs.Passes.{AreApart, one_pass}
 use Rattle.shards.proofs.Unfit.{some_same}
 
@@ -23,7 +23,7 @@ least_one a b not_low not_high = omega (arith, not_low, not_high)
 unfit_not : (passes : List PassModel) (place : ℕ) (shard : ShardModel) (seen found : ℕ) → IsUnfit passes place shard seen found → ¬ Fits passes place shard
 unfit_not passes place shard seen found (inl h) fits = h.0 fits.in_place
 unfit_not passes place shard seen found (inr h) fits =
-    behind_apart place h.1.0 shard.journal seen h.1.2 (All-contains (λ pass. IsInKeeping place pass shard.journal) passes h.1.0 fits.keeping h.1.1)
+    following_apart place h.1.0 shard.journal seen h.1.2 (All-contains (λ pass. IsInKeeping place pass shard.journal) passes h.1.0 fits.keeping h.1.1)
 
 -- a journal that is not in keeping with a pass, and is with those of lesser feeders
 abbrev IsFirstBehind : List PassModel → ℕ → List Entry → PassModel → ℕ → ℕ → Type 0
@@ -33,13 +33,13 @@ IsFirstBehind passes place journal pass seen found =
 no_lesser : (passes : List PassModel) (place : ℕ) (journal : List Entry) (a b : PassModel) (seen found seen' found' : ℕ)
     → IsFirstBehind passes place journal a seen found → IsFirstBehind passes place journal b seen' found' → ¬ (a.feeder < b.feeder)
 no_lesser passes place journal a b seen found seen' found' h k low =
-    behind_apart place a journal seen h.1 (All-contains (λ other. other.feeder < b.feeder → IsInKeeping place other journal) passes a k.3 h.0 low)
+    following_apart place a journal seen h.1 (All-contains (λ other. other.feeder < b.feeder → IsInKeeping place other journal) passes a k.3 h.0 low)
 
-first_behind_one : (passes : List PassModel) (place : ℕ) (journal : List Entry) (a b : PassModel) (seen found seen' found' : ℕ) → AreApart passes
+first_after_one : (passes : List PassModel) (place : ℕ) (journal : List Entry) (a b : PassModel) (seen found seen' found' : ℕ) → AreApart passes
     → IsFirstBehind passes place journal a seen found → IsFirstBehind passes place journal b seen' found' → (seen ≡ seen') × (found ≡ found')
-first_behind_one passes place journal a b seen found seen' found' apart h k =
+first_after_one passes place journal a b seen found seen' found' apart h k =
     let same = one_pass passes a b apart h.0 k.0 (least_one a.feeder b.feeder (no_lesser passes place journal a b seen found seen' found' h k) (no_lesser passes place journal b a seen' found' seen found k h)) in
-    (behind_once place b journal seen seen' (subst (λ (pass : PassModel). IsBehind place pass journal seen) same h.1) k.1, h.2 ∙ sym k.2)
+    (after_once place b journal seen seen' (subst (λ (pass : PassModel). IsBehind place pass journal seen) same h.1) k.1, h.2 ∙ sym k.2)
 
 unfit_one : (passes : List PassModel) (place : ℕ) (shard : ShardModel) (seen found seen' found' : ℕ) → AreApart passes
     → IsUnfit passes place shard seen found → IsUnfit passes place shard seen' found' → (seen ≡ seen') × (found ≡ found')
@@ -47,7 +47,7 @@ unfit_one passes place shard seen found seen' found' apart (inl h) (inl k) = (h.
 unfit_one passes place shard seen found seen' found' apart (inl h) (inr k) = absurd (h.0 k.0)
 unfit_one passes place shard seen found seen' found' apart (inr h) (inl k) = absurd (k.0 h.0)
 unfit_one passes place shard seen found seen' found' apart (inr h) (inr k) =
-    first_behind_one passes place shard.journal h.1.0 k.1.0 seen found seen' found' apart (h.1.1, h.1.2, h.1.3, h.1.4) (k.1.1, k.1.2, k.1.3, k.1.4)
+    first_after_one passes place shard.journal h.1.0 k.1.0 seen found seen' found' apart (h.1.1, h.1.2, h.1.3, h.1.4) (k.1.1, k.1.2, k.1.3, k.1.4)
 
 -- a property holds of the shard at a place
 abbrev IsAt : List ShardModel → ℕ → (ℕ → ShardModel → Type 0) → Type 0

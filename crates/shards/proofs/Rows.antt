@@ -23,9 +23,6 @@ pub reserved : (feeder : ℕ) (own : List Submitted) (at : ℕ) (x y : Submitted
 reserved feeder own at x y is whole rows =
     map-set_same (entries_of feeder) own at y x (same_entries feeder y.whole.items x.whole.items y.rows.items x.rows.items whole rows ∙ ap (entries_of feeder) is)
 
-pub within_more : (many more : ℕ) (rows : List CompactEntry) → many ≤ more → AreWithin many rows → AreWithin more rows
-within_more many more rows le all = All-weaker (λ row. entries_wanted row ≤ many) (λ row. entries_wanted row ≤ more) (λ row within. omega (arith, le, within)) rows all
-
 -- with one more entry kept whole, the entry of a row stays
 entry_more : (feeder : ℕ) (whole : List NumberedEntry) (known : NumberedEntry) (row : CompactEntry) → entries_wanted row ≤ length whole → entry_by feeder (whole ++ known ∷ []) row ≡ entry_by feeder whole row
 entry_more feeder whole known (Invoked holds register number event process act begin text) within = refl

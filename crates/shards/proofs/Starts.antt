@@ -104,12 +104,6 @@ none_past own start known rises starts past among =
     let at = found_at own known.number start rises starts among.1 (among.0, among.2, among.3) (ap (λ (p : ℕ × PlainEntry). p.0) among.4) in
     absurd (let within = at.0 in omega arith)
 
--- the own entries of a pass before its feeder's start have lesser numbers
-pub start_of : (passes : List PassModel) (at number : ℕ) (starts : List ℕ) (pass : PassModel) (feeder : ℕ) → AreStarts passes at number starts → Contains passes pass → pass.feeder ≡ feeder → AreNumberedBelow (own_entries pass at) number (get_or starts feeder 0)
-start_of passes at number starts pass feeder are here is =
-    subst (λ (f : ℕ). AreNumberedBelow (own_entries pass at) number (get_or starts f 0)) is
-    (All-contains (λ other. AreNumberedBelow (own_entries other at) number (get_or starts other.feeder 0)) passes pass are here)
-
 -- the start of one feeder moves on
 pub starts_set : (passes : List PassModel) (at number : ℕ) (starts : List ℕ) (pass : PassModel) (feeder start : ℕ) → AreApart passes → AreStarts passes at number starts → Contains passes pass → pass.feeder ≡ feeder
     → feeder < length starts → AreNumberedBelow (own_entries pass at) number start → AreStarts passes at number (set starts feeder start)

@@ -33,10 +33,6 @@ pub owned_by : (told : Bool) (passes : List PassModel) (at : ℕ) (known : Numbe
 owned_by true passes at known pass apart here of is = all_of_one (λ other. SubmittedAt other at known) passes pass known.entry.feeder apart here of (is.0 refl)
 owned_by false passes at known pass apart here of is = (here.0, pass, here.1, here.2, (of, λ told. false≢true (is.1 told)))
 
--- where the feeder has no pass, the entry is no stranger
-pub owned_by_none : (passes : List PassModel) (at : ℕ) (known : NumberedEntry) → ¬ HasPassOf passes known.entry.feeder → IsOwned passes at known
-owned_by_none passes at known none = all_of_none (λ other. SubmittedAt other at known) passes known.entry.feeder none
-
 no_stranger_from : (passes : List PassModel) (at : ℕ) (known : NumberedEntry) → IsOwned passes at known → ¬ IsStranger passes at known
 no_stranger_from passes at known owned (k, pass, within, is, (of, not_told)) =
     not_told (All-contains (λ other. other.feeder ≡ known.entry.feeder → SubmittedAt other at known) passes pass owned (k, within, is) of)
@@ -60,8 +56,8 @@ module _ (journal : List Entry) (number : ℕ) where
   abbrev pub read : Entry → NumberedEntry
   read d = record { number = number; entry = get_or journal number d }
 
-  stands : (d : Entry) → number < length journal → Contains (numbered 0 journal) (read d)
-  stands d l = (number, let m = length-numbered 0 journal in omega arith, at_place number journal (read d) d l)
+  present : (d : Entry) → number < length journal → Contains (numbered 0 journal) (read d)
+  present d l = (number, let m = length-numbered 0 journal in omega arith, at_place number journal (read d) d l)
 
   module _ (P : NumberedEntry → Type 0) where
     pub lesser_more : (d : Entry) → All (λ known. known.number < number → P known) (numbered 0 journal) → P (read d) → All (λ known. known.number < number + 1 → P known) (numbered 0 journal)
@@ -84,7 +80,7 @@ module _ (journal : List Entry) (number : ℕ) where
 
   pub first_stranger_from : (passes : List PassModel) (at : ℕ) (d : Entry) → number < length journal → All (λ known. known.number < number → IsOwned passes at known) (numbered 0 journal) → IsStranger passes at (read d) → IsFirstStranger passes at journal (read d)
   first_stranger_from passes at d l below stranger = (
-    stands d l,
+    present d l,
     stranger,
     All-weaker (λ known. known.number < number → IsOwned passes at known) (λ known. known.number < number → ¬ IsStranger passes at known)
         (λ known owned less. no_stranger_from passes at known (owned less)) (numbered 0 journal) below,

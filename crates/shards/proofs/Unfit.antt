@@ -16,9 +16,9 @@ pub record Suits (place : ℕ) (journal : List Entry) (pass : PassModel) : Type 
 pub unfit : (passes : List PassModel) (at place feeder seen : ℕ) (journal entries : List Entry) (pass : PassModel) → journal ≡ entries → at ≡ place
     → Contains passes pass → pass.feeder ≡ feeder → IsBehind place pass journal seen → All (λ other. other.feeder < feeder → Suits place journal other) passes
     → IsUnfit passes place (record { at = at; journal = entries }) seen (length journal)
-unfit passes at place feeder seen journal entries pass is in_place here of behind lesser =
+unfit passes at place feeder seen journal entries pass is in_place here of following lesser =
     subst (λ (items : List Entry). IsUnfit passes place (record { at = at; journal = items }) seen (length journal)) is
-    (inr (in_place, (pass, here, behind, refl, λ k d within low. (lesser k d within (subst (λ (n : ℕ). (slice_index_or passes k d).feeder < n) of low)).keeping)))
+    (inr (in_place, (pass, here, following, refl, λ k d within low. (lesser k d within (subst (λ (n : ℕ). (slice_index_or passes k d).feeder < n) of low)).keeping)))
 
 pub fits : (passes : List PassModel) (at place : ℕ) (journal entries : List Entry) → journal ≡ entries → at ≡ place
     → All (Suits place journal) passes → Fits passes place (record { at = at; journal = entries })

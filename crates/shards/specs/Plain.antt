@@ -7,7 +7,7 @@ use Rattle.intervals.specs.declared.operation.RegId.{RegId}
 use Rattle.intervals.specs.declared.operation.Act.{Act}
 use Rattle.intervals.specs.declared.operation.Moment.{Moment}
 use Rattle.intervals.specs.declared.operation.Value.{Value}
-use Rattle.intervals.specs.declared.operation.Parts.{Parts}
+use Rattle.intervals.specs.declared.operation.OpParts.{OpParts}
 use Rattle.intervals.specs.declared.edit.Change.{Change}
 use Rattle.intervals.specs.declared.edit.Lent.{Lent}
 use Rattle.intervals.specs.declared.edit.Lent.TheVariants as lents
@@ -60,7 +60,7 @@ pub record PlainEntry : Type 0 where
   pub reply : Reply
 
 -- the texts of an operation by their bytes
-abbrev pub plain_parts : Parts → PlainParts
+abbrev pub plain_parts : OpParts → PlainParts
 plain_parts parts = record {
   invocation = parts.invocation.now;
   answer = option_map (λ text. text.now) parts.answer;

@@ -91,7 +91,8 @@ impl<'t, O: Opening> Auditor<'t, O> {
         ensures err { OnErr result (pass.new ≡ pass.old) }
     {
         let shard = self.shard_of(pass, register)?;
-        let answered = self.submit_inside(rt, gate, shard, pass, register, &edit);
+        let sharded = Sharded { shard, register };
+        let answered = self.submit_inside(rt, gate, sharded, pass, &edit);
         gate.outside(pass.feeder());
         answered
     }
@@ -110,7 +111,8 @@ impl<'t, O: Opening> Auditor<'t, O> {
         ensures err { OnErr result (pass.new ≡ pass.old) }
     {
         let shard = self.shard_of(pass, register)?;
-        let answered = self.standing_inside(rt, gate, shard, pass, register);
+        let sharded = Sharded { shard, register };
+        let answered = self.standing_inside(rt, gate, sharded, pass);
         gate.outside(pass.feeder());
         answered
     }
@@ -192,25 +194,24 @@ impl<'t, O: Opening> Auditor<'t, O> {
         &self,
         rt: &R,
         gate: &G,
-        shard: u32,
+        sharded: Sharded,
         pass: &mut Pass<'t>,
-        register: RegId,
         edit: &Edit<'t>,
     ) -> Result<Receipt, ShardFault>
-        requires here { shard ≡ register.0 % O.plan.shards }
-        requires known { register.0 < length O.plan.claims }
+        requires here { sharded.shard ≡ sharded.register.0 % O.plan.shards }
+        requires known { sharded.register.0 < length O.plan.claims }
         requires pass { IsPassOf O.plan pass.old }
-        ensures submitted { IfOk result (IsSubmitted O.plan pass.old register edit.now) }
-        ensures told { IfOk result (λ receipt. pass.new ≡ entered pass.old register edit.now receipt) }
-        ensures refused { IfErr result (IsRefusal O.plan pass.old register.0) }
+        ensures submitted { IfOk result (IsSubmitted O.plan pass.old sharded.register edit.now) }
+        ensures told { IfOk result (λ receipt. pass.new ≡ entered pass.old sharded.register edit.now receipt) }
+        ensures refused { IfErr result (IsRefusal O.plan pass.old sharded.register.0) }
         ensures err { OnErr result (pass.new ≡ pass.old) }
     {
-        let mut state = self.locks[shard as usize].lock(rt);
-        gate.inside(shard, pass.feeder());
-        if state.at() != shard {
-            return Err(misplaced(shard));
+        let mut state = self.locks[sharded.shard as usize].lock(rt);
+        gate.inside(sharded.shard, pass.feeder());
+        if state.at() != sharded.shard {
+            return Err(misplaced(sharded.shard));
         }
-        let answered = state.submit(pass, register, *edit);
+        let answered = state.submit(pass, sharded.register, *edit);
         if let Ok(receipt) = &answered {
             if let Some(change) = &receipt.change {
                 gate.changed(pass.feeder(), change);
@@ -224,24 +225,30 @@ impl<'t, O: Opening> Auditor<'t, O> {
         &self,
         rt: &R,
         gate: &G,
-        shard: u32,
+        sharded: Sharded,
         pass: &mut Pass<'t>,
-        register: RegId,
     ) -> Result<Answer<'t>, ShardFault>
-        requires here { shard ≡ register.0 % O.plan.shards }
-        requires known { register.0 < length O.plan.claims }
+        requires here { sharded.shard ≡ sharded.register.0 % O.plan.shards }
+        requires known { sharded.register.0 < length O.plan.claims }
         requires pass { IsPassOf O.plan pass.old }
-        ensures live { IfOk result (IsLive O.plan pass.old pass.new register.0) }
-        ensures refused { IfErr result (λ fault. IsRefusal O.plan pass.old register.0 fault × (fault ≢ Memory)) }
+        ensures live { IfOk result (IsLive O.plan pass.old pass.new sharded.register.0) }
+        ensures refused { IfErr result (λ fault. IsRefusal O.plan pass.old sharded.register.0 fault × (fault ≢ Memory)) }
         ensures err { OnErr result (pass.new ≡ pass.old) }
     {
-        let state = self.locks[shard as usize].lock(rt);
-        gate.inside(shard, pass.feeder());
-        if state.at() != shard {
-            return Err(misplaced(shard));
+        let state = self.locks[sharded.shard as usize].lock(rt);
+        gate.inside(sharded.shard, pass.feeder());
+        if state.at() != sharded.shard {
+            return Err(misplaced(sharded.shard));
         }
-        state.standing(pass, register)
+        state.standing(pass, sharded.register)
     }
+}
+
+/// A register, and the shard that has it.
+#[derive(Clone, Copy)]
+struct Sharded {
+    shard: u32,
+    register: RegId,
 }
 
 /// The fault where a lock guards another shard than the one of its place.

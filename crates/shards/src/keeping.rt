@@ -12,7 +12,7 @@ use crate::{Entry, NumberedEntry, Pass};
 /// many of its entries are the feeder's.
 pub fn first_lack(pass: &Pass, shard: u32, journal: &[Entry], count: u64) -> Option<u64>
     requires { count ≡ count_by pass.now.feeder journal.now }
-    ensures behind { IfSome result (IsBehind shard pass.now journal.now) }
+    ensures following { IfSome result (IsBehind shard pass.now journal.now) }
     ensures keeping { IsNone result → IsInKeeping shard pass.now journal.now }
     ensures rises { IsNone result → Rises (own_entries pass.now shard) }
 {

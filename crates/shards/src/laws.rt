@@ -28,7 +28,7 @@ pub fn each_front_is_legal()
 
 /// A legal journal leaves a register as all its edits in order do, whether they were accepted or
 /// refused.
-pub fn what_stands_is_after_all_edits()
+pub fn what_is_present_after_all_edits()
     ensures { (plan : Plan) (at register : ℕ) (claim : ClaimModel) (journal : List Entry) → IsLegalJournal plan at journal → slice_get plan.claims register ≡ Some claim
         → left_by journal register claim ≡ standing (unedited claim) (edits_of register journal) }
 {}

@@ -4,7 +4,7 @@ ghost use Rattle.std.specs.Prelude.{◌≡◌, ◌↔◌, IsTrue, option_map};
 ghost use Rattle.shards.specs.Plain.{plain_entry, plain_edit, plain_op, plain_parts, plain_change, plain_lent};
 
 use crate::Entry;
-use intervals::{Change, Edit, Lent, Op, Parts};
+use intervals::{Change, Edit, Lent, Op, OpParts};
 
 pub fn is_same(a: &Entry, b: &Entry) -> bool
     ensures { IsTrue result ↔ (plain_entry a.now ≡ plain_entry b.now) }
@@ -38,7 +38,7 @@ fn is_same_op(a: &Op, b: &Op) -> bool
         && are_same_parts(&a.parts, &b.parts)
 }
 
-fn are_same_parts(a: &Parts, b: &Parts) -> bool
+fn are_same_parts(a: &OpParts, b: &OpParts) -> bool
     ensures { IsTrue result ↔ (plain_parts a.now ≡ plain_parts b.now) }
 {
     a.invocation == b.invocation

@@ -40,19 +40,19 @@ wanted_here many span least lt le =
 wanted_has : (measure : Measure) (many : ℕ) (labels : List (String Global)) (k number at : ℕ) (spans : List BarSpan) (span : BarSpan) (label : String Global) → at ≡ number + k
     → slice_get spans k ≡ Some span → slice_get labels at ≡ Some label → span.begin < span_end_mark many span → span_end_mark many span ≤ many
     → Contains (wanted_of measure many labels number spans) (want_for many span (label_width measure label))
-wanted_has measure many labels k number at [] span label is stands labelled lt le = absurd (cc)
-wanted_has measure many labels zero number at (s ∷ spans) span label is stands labelled lt le =
+wanted_has measure many labels k number at [] span label is present labelled lt le = absurd (cc)
+wanted_has measure many labels zero number at (s ∷ spans) span label is present labelled lt le =
     let here : number ≡ at = omega (arith, is) in
-    let one : s ≡ span = same_Some s span stands in
+    let one : s ≡ span = same_Some s span present in
     let least : option_map_or (label_width measure) (slice_get labels number) 0 ≡ label_width measure label =
     ap (λ (n : ℕ). option_map_or (label_width measure) (slice_get labels n) 0) here ∙ ap (λ (found : Option (String Global)). option_map_or (label_width measure) found 0) labelled in
     let mine : Contains (wanted_between many s.begin (span_end_mark many s) (label_width measure label)) (want_for many span (label_width measure label)) =
     subst (λ (z : BarSpan). Contains (wanted_between many z.begin (span_end_mark many z) (label_width measure label)) (want_for many span (label_width measure label))) (sym one) (wanted_here many span (label_width measure label) lt le) in
     Contains-append_left (wanted_between many s.begin (span_end_mark many s) (option_map_or (label_width measure) (slice_get labels number) 0)) (wanted_of measure many labels (number + 1) spans) (want_for many span (label_width measure label))
     (subst (λ (n : ℕ). Contains (wanted_between many s.begin (span_end_mark many s) n) (want_for many span (label_width measure label))) (sym least) mine)
-wanted_has measure many labels (suc k) number at (s ∷ spans) span label is stands labelled lt le =
+wanted_has measure many labels (suc k) number at (s ∷ spans) span label is present labelled lt le =
     Contains-append_right (wanted_between many s.begin (span_end_mark many s) (option_map_or (label_width measure) (slice_get labels number) 0)) (wanted_of measure many labels (number + 1) spans) (want_for many span (label_width measure label))
-    (wanted_has measure many labels k (number + 1) at spans span label (omega (arith, is)) stands labelled lt le)
+    (wanted_has measure many labels k (number + 1) at spans span label (omega (arith, is)) present labelled lt le)
 
 -- an operation that does not end before it begins has its marks apart
 
@@ -111,8 +111,8 @@ module _ (law : Left) (ops : List Op) (marks : List Mark) (spans : List BarSpan)
   abbrev row : List ℕ
   row = range_with_len 1 (length marks)
 
-  ends_behind : (end : ℕ) (moment : Moment) → op.end ≡ Some moment → span.end ≡ Some end → slice_get marks end ≡ Some (end_mark i moment) → op.begin.0 < moment.0 → span.begin < end
-  ends_behind end moment ended is marked later = by_order (cases_lt span.begin end)
+  ends_following : (end : ℕ) (moment : Moment) → op.end ≡ Some moment → span.end ≡ Some end → slice_get marks end ≡ Some (end_mark i moment) → op.begin.0 < moment.0 → span.begin < end
+  ends_following end moment ended is marked later = by_order (cases_lt span.begin end)
     where
       end_within : end < length marks
       end_within = slice_get_within marks end (end_mark i moment) marked
@@ -141,7 +141,7 @@ module _ (law : Left) (ops : List Op) (marks : List Mark) (spans : List BarSpan)
   apart_by (Some m) None ended is there later = absurd there
   apart_by (Some m) (Some n) ended is there later =
       let within : n < length marks = slice_get_within marks n (end_mark i m) there in
-      (ends_behind n m ended is there later, omega (arith, within))
+      (ends_following n m ended is there later, omega (arith, within))
 
   pub marks_apart : IfSome op.end (λ end. op.begin.0 < end.0) → (span.begin < span_end_mark (length marks) span) × (span_end_mark (length marks) span ≤ length marks)
   marks_apart later = apart_by op.end span.end refl refl (spanned.each i op span at_op at_span).end later

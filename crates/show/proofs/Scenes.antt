@@ -61,10 +61,6 @@ module _ (ops : List Op) (ids : List OpId) (extent : Extent) (chosen : Chosen) (
 
 -- an operation that has a letter is among those that are shown before all others
 
-or_true : (a b : Bool) → b ≡ true → (a || b) ≡ true
-or_true true b is = refl
-or_true false b is = is
-
 asked_by : (l : Lettered) (letters : List Lettered) (id : OpId) (letter : Letter) (more : List OpId) (test : Bool) → same_id l.id id ≡ test
     → (letter_for letters id ≡ Some letter → is_among (map (λ (o : Lettered). o.id) letters ++ more) id ≡ true)
     → letter_for (l ∷ letters) id ≡ Some letter → is_among (map (λ (o : Lettered). o.id) (l ∷ letters) ++ more) id ≡ true
@@ -92,6 +88,6 @@ module _ (subject : Subject) (extent : Extent) (scene : Scene) (is : IsScene sub
       omega (arith, shown, hidden, both)
 
   pub lettered_are_shown : Asked → (op : Op) (letter : Letter) → Contains (ops_in_slots subject.slots.now) op → letter_for scene.letters.items op.id ≡ Some letter → Contains scene.ops.items op
-  lettered_are_shown law op letter stands found =
+  lettered_are_shown law op letter present found =
       subst (λ (xs : List Op). Contains xs op) (sym is.shown)
-      (law (ops_in_slots subject.slots.now) asked (extent_of scene.witness extent) is.chosen op is.choice stands (asked_if scene.letters.items op.id letter (asked_beside (ops_in_slots subject.slots.now) scene.witness scene.around) found))
+      (law (ops_in_slots subject.slots.now) asked (extent_of scene.witness extent) is.chosen op is.choice present (asked_if scene.letters.items op.id letter (asked_beside (ops_in_slots subject.slots.now) scene.witness scene.around) found))

@@ -4,7 +4,7 @@ use crate::layout::{Layout, earlier, layout_of, widest_name};
 use crate::measure::{Measure, digits_of};
 use crate::scene::{Scene, Sketch};
 use crate::told::number_of;
-use crate::zone::{Zone, conflict_in, zones_of};
+use crate::zone::{DrawnZone, conflict_in, zones_of};
 use intervals::Kind;
 use register_book::Side;
 use std::alloc::{AllocError, Global};
@@ -17,13 +17,13 @@ pub struct Canvas<'s, 't> {
     /// The lane of each operation.
     pub lanes: Vec<usize>,
     /// The zones of all values, of an atomic register all of whose operations are shown.
-    pub zones: Vec<Zone>,
+    pub zones: Vec<DrawnZone>,
     /// How many rows the forward ones have.
     pub forward_rows: u128,
     /// How many rows the backward ones have.
     pub backward_rows: u128,
     /// The zones of the two values of a conflict, where there are no others.
-    pub conflict: Vec<Zone>,
+    pub conflict: Vec<DrawnZone>,
     /// The width left of the strip, for the names of lanes.
     pub margin: u128,
     /// The top of the lanes within the strip.
@@ -127,7 +127,7 @@ fn room_beside(width: u32, margin: u128) -> u32 {
     beside.max(100)
 }
 
-fn zones_height(rows: u128, conflict: &[Zone]) -> u128 {
+fn zones_height(rows: u128, conflict: &[DrawnZone]) -> u128 {
     if !conflict.is_empty() {
         return 2 * ZONE + 6;
     }
@@ -138,7 +138,7 @@ fn zones_height(rows: u128, conflict: &[Zone]) -> u128 {
 }
 
 /// How many rows the forward or the backward zones have.
-fn rows_of(zones: &[Zone], is_forward: bool) -> u128 {
+fn rows_of(zones: &[DrawnZone], is_forward: bool) -> u128 {
     let mut rows: u128 = 0;
     for zone in zones {
         if zone.is_forward == is_forward {

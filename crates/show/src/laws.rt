@@ -23,13 +23,13 @@ ghost use Rattle.show.specs.Scene.{IsScene};
 use timeline::laws;
 
 /// What is shown stands, and is shown once: the operations that stand are those that are shown and some others.
-pub fn what_is_shown_stands()
+pub fn what_is_shown_is_present()
     ensures { (subject : Subject) (extent : Extent) (scene : Scene) → IsScene subject extent scene
         → (others : List Op) × IsPermutation (ops_in_slots subject.slots.now) (scene.ops.items ++ others) }
 {}
 
 /// The operations that are shown and those that are counted between marks are together as many as stand.
-pub fn what_stands_is_shown_or_counted()
+pub fn what_is_present_is_shown_or_counted()
     ensures { (subject : Subject) (extent : Extent) (scene : Scene) → IsScene subject extent scene
         → length scene.ops.items + sum scene.folded.items ≡ length (ops_in_slots subject.slots.now) }
 {

@@ -6,7 +6,7 @@ use crate::canvas::{BAR, Canvas, ZONE, ZONE_ROW, box_width, middle_of};
 use crate::colour::{Colour, colour_of_value};
 use crate::filled::{Filling, push_filled, push_numbers};
 use crate::letter::is_wrong;
-use crate::zone::Zone;
+use crate::zone::DrawnZone;
 use register_book::{Side, Witness};
 use std::alloc::{AllocError, Global};
 
@@ -147,7 +147,12 @@ fn push_zones(text: &mut String, canvas: &Canvas) -> Result<(), AllocError> {
 }
 
 /// A forward zone points to the right and is filled, a backward one points to the left and is hollow.
-fn push_zone(text: &mut String, canvas: &Canvas, zone: &Zone, y: u128) -> Result<(), AllocError> {
+fn push_zone(
+    text: &mut String,
+    canvas: &Canvas,
+    zone: &DrawnZone,
+    y: u128,
+) -> Result<(), AllocError> {
     let colour = colour_of_value(&canvas.layout.scene.witness, zone.value);
     let (left, right) = (zone.left, zone.right);
     let (form, from, tip, to) = if zone.is_forward {

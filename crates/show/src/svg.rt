@@ -16,7 +16,7 @@ use crate::scene::{Scene, Sketch};
 use crate::strip::push_strip;
 use crate::style::{Theme, push_style};
 use crate::title::heading_of;
-use crate::zone::Zone;
+use crate::zone::DrawnZone;
 use std::alloc::{AllocError, Global};
 use timeline::Seat;
 
@@ -330,7 +330,7 @@ fn push_zone_names(
 fn push_zone_name(
     text: &mut String,
     window: &Window,
-    zone: &Zone,
+    zone: &DrawnZone,
     y: u128,
 ) -> Result<(), AllocError> {
     if zone.left >= window.to || window.from > zone.right {

@@ -12,7 +12,7 @@ use crate::measure::{Measure, digits_of, digits_of_moment};
 use crate::scene::{Scene, Sketch};
 use crate::subject::Subject;
 use crate::title::push_title;
-use crate::zone::{Zone, conflict_in};
+use crate::zone::{DrawnZone, conflict_in};
 use std::alloc::{AllocError, Global};
 
 /// How a timeline looks: how many cells a line may have, and whether its characters are all of ASCII.
@@ -30,12 +30,12 @@ struct Drawing<'s, 't> {
     /// How many cells come before the lines of lanes.
     margin: usize,
     /// The zones of the two values of a conflict.
-    conflict: Vec<Zone>,
+    conflict: Vec<DrawnZone>,
 }
 
 /// Cells from one place up to another, and marks from one number up to another.
 #[derive(Drop)]
-struct Window {
+struct Cells {
     from: u128,
     to: u128,
     first: usize,
@@ -124,7 +124,7 @@ fn push_row(
     text: &mut String,
     alloc: Global,
     drawing: &Drawing,
-    window: &Window,
+    window: &Cells,
     nexts: &mut [usize],
 ) -> Result<(), AllocError> {
     text.push_str("\n")?;
@@ -134,7 +134,7 @@ fn push_row(
     push_axis(text, alloc, drawing, window)
 }
 
-fn window_of(layout: &Layout, row: usize) -> Window {
+fn window_of(layout: &Layout, row: usize) -> Cells {
     let next = row.saturating_add(1);
     let (to, end) = if next < layout.starts.len() {
         let end = layout.starts[next];
@@ -146,14 +146,14 @@ fn window_of(layout: &Layout, row: usize) -> Window {
     if row > 0 && row < layout.starts.len() {
         let first = layout.starts[row];
         let from = layout.place_of(first).saturating_sub(1);
-        Window {
+        Cells {
             from,
             to,
             first,
             end,
         }
     } else {
-        Window {
+        Cells {
             from: 0,
             to,
             first: 0,
@@ -170,13 +170,13 @@ fn tail_width(layout: &Layout) -> u128 {
 }
 
 /// A line with the moments that the caption speaks of, and with where operations are left out.
-fn new_line(alloc: Global, drawing: &Drawing, window: &Window) -> Result<TextLine, AllocError> {
+fn new_line(alloc: Global, drawing: &Drawing, window: &Cells) -> Result<TextLine, AllocError> {
     let mut line = blank_line(alloc, window)?;
     put_folds_and_drops(&mut line, drawing, window);
     Ok(line)
 }
 
-fn put_folds_and_drops(line: &mut TextLine, drawing: &Drawing, window: &Window) {
+fn put_folds_and_drops(line: &mut TextLine, drawing: &Drawing, window: &Cells) {
     let layout = &drawing.layout;
     for number in window.first..window.end {
         if layout.left_out_before(number) > 0 {
@@ -188,7 +188,7 @@ fn put_folds_and_drops(line: &mut TextLine, drawing: &Drawing, window: &Window) 
     }
 }
 
-fn blank_line(alloc: Global, window: &Window) -> Result<TextLine, AllocError> {
+fn blank_line(alloc: Global, window: &Cells) -> Result<TextLine, AllocError> {
     let width = match usize::try_from(window.to.saturating_sub(window.from)) {
         Ok(width) => width,
         Err(_) => 0,
@@ -216,7 +216,7 @@ fn push_zones(
     text: &mut String,
     alloc: Global,
     drawing: &Drawing,
-    window: &Window,
+    window: &Cells,
 ) -> Result<(), AllocError> {
     let mut is_there = false;
     for zone in &drawing.conflict {
@@ -232,7 +232,7 @@ fn push_zones(
 }
 
 /// Whether some of a zone is in the window.
-fn is_zone_in(window: &Window, zone: &Zone) -> bool {
+fn is_zone_in(window: &Cells, zone: &DrawnZone) -> bool {
     zone.left < window.to && window.from <= zone.right
 }
 
@@ -241,8 +241,8 @@ fn push_zone(
     text: &mut String,
     alloc: Global,
     drawing: &Drawing,
-    window: &Window,
-    zone: &Zone,
+    window: &Cells,
+    zone: &DrawnZone,
 ) -> Result<(), AllocError> {
     let mut line = new_line(alloc, drawing, window)?;
     draw_zone(&mut line, zone, drawing.glyphs);
@@ -251,7 +251,7 @@ fn push_zone(
     push_after(text, zone_name_width(zone.value), drawing.margin, &line)
 }
 
-fn draw_zone(line: &mut TextLine, zone: &Zone, glyphs: &Glyphs) {
+fn draw_zone(line: &mut TextLine, zone: &DrawnZone, glyphs: &Glyphs) {
     let (between, left, right) = if zone.is_forward {
         (glyphs.forward, glyphs.left_end, glyphs.right_head)
     } else {
@@ -267,7 +267,7 @@ fn push_at_first(
     text: &mut String,
     alloc: Global,
     drawing: &Drawing,
-    window: &Window,
+    window: &Cells,
 ) -> Result<(), AllocError> {
     let at_first = &drawing.layout.at_first;
     if at_first.is_empty() || window.from > 0 {
@@ -296,7 +296,7 @@ fn push_lanes(
     text: &mut String,
     alloc: Global,
     drawing: &Drawing,
-    window: &Window,
+    window: &Cells,
     nexts: &mut [usize],
 ) -> Result<(), AllocError> {
     let ends = drawing.layout.lane_ends.as_slice();
@@ -332,7 +332,7 @@ fn push_lane(
 fn draw_lane(
     line: &mut TextLine,
     drawing: &Drawing,
-    window: &Window,
+    window: &Cells,
     from: usize,
     to: usize,
 ) -> (usize, usize) {
@@ -409,7 +409,7 @@ fn push_axis(
     text: &mut String,
     alloc: Global,
     drawing: &Drawing,
-    window: &Window,
+    window: &Cells,
 ) -> Result<(), AllocError> {
     let mut line = blank_line(alloc, window)?;
     draw_axis(&mut line, drawing, window);
@@ -423,7 +423,7 @@ fn push_axis(
     push_after(text, name, drawing.margin, &line)
 }
 
-fn draw_axis(line: &mut TextLine, drawing: &Drawing, window: &Window) {
+fn draw_axis(line: &mut TextLine, drawing: &Drawing, window: &Cells) {
     let layout = &drawing.layout;
     for number in &layout.told {
         put_moment(line, layout, window, *number);
@@ -442,7 +442,7 @@ fn draw_axis(line: &mut TextLine, drawing: &Drawing, window: &Window) {
 }
 
 /// The moment of a mark, where there is room for it.
-fn put_moment(line: &mut TextLine, layout: &Layout, window: &Window, number: usize) {
+fn put_moment(line: &mut TextLine, layout: &Layout, window: &Cells, number: usize) {
     if number >= layout.scene.marks.len() {
         return;
     }

@@ -9,7 +9,7 @@ use std::alloc::{AllocError, Global};
 /// The zone of a value: from the least end of its operations to their greatest beginning, if that is later (forward),
 /// else from the greatest beginning to the least end.
 #[derive(Clone, Copy)]
-pub struct Zone {
+pub struct DrawnZone {
     pub value: Value,
     pub left: u128,
     pub right: u128,
@@ -19,7 +19,7 @@ pub struct Zone {
 }
 
 /// The zones of the two values of a conflict; empty where there is none.
-pub fn conflict_in(alloc: Global, layout: &Layout) -> Result<Vec<Zone>, AllocError> {
+pub fn conflict_in(alloc: Global, layout: &Layout) -> Result<Vec<DrawnZone>, AllocError> {
     let mut zones = Vec::new(alloc);
     if let Some(Witness::Crossing { a, b, c, d }) = &layout.scene.witness {
         zones.push(zone_between(layout, a, d))?;
@@ -29,9 +29,9 @@ pub fn conflict_in(alloc: Global, layout: &Layout) -> Result<Vec<Zone>, AllocErr
 }
 
 /// The zone from the end of one side to the beginning of another side of the same value.
-fn zone_between(layout: &Layout, least: &Side, greatest: &Side) -> Zone {
+fn zone_between(layout: &Layout, least: &Side, greatest: &Side) -> DrawnZone {
     let (end, begin) = (layout.end_place(least), layout.begin_place(greatest));
-    Zone {
+    DrawnZone {
         value: match greatest {
             Side::Op(op) => op.value(),
             Side::Initial => Value::Nil,
@@ -44,7 +44,11 @@ fn zone_between(layout: &Layout, least: &Side, greatest: &Side) -> Zone {
 }
 
 /// The zones of the values of the operations that are shown, by their left edges.
-pub fn zones_of(alloc: Global, layout: &Layout, initial: Initial) -> Result<Vec<Zone>, AllocError> {
+pub fn zones_of(
+    alloc: Global,
+    layout: &Layout,
+    initial: Initial,
+) -> Result<Vec<DrawnZone>, AllocError> {
     let mut zones = zones_by_value(alloc, layout, initial)?;
     zones.sort_unstable_by_key(|zone| (zone.left, zone.right));
     seat(alloc, &mut zones, true)?;
@@ -56,7 +60,7 @@ fn zones_by_value(
     alloc: Global,
     layout: &Layout,
     initial: Initial,
-) -> Result<Vec<Zone>, AllocError> {
+) -> Result<Vec<DrawnZone>, AllocError> {
     let mut zones = Vec::new(alloc);
     for (_, _, number) in &by_value(alloc, layout.scene)? {
         if let Some(bar) = layout.bar(*number) {
@@ -83,7 +87,7 @@ fn by_value(alloc: Global, scene: &Scene) -> Result<Vec<(Value, bool, usize)>, A
 }
 
 /// Widens the last zone by the bar of an operation of its value, or begins the zone of another value.
-fn add_bar(zones: &mut Vec<Zone>, bar: &Bar, initial: Initial) -> Result<(), AllocError> {
+fn add_bar(zones: &mut Vec<DrawnZone>, bar: &Bar, initial: Initial) -> Result<(), AllocError> {
     let value = bar.op.value();
     if let Some(zone) = zones.last_mut() {
         if is_same_value(zone.value, value) {
@@ -97,7 +101,7 @@ fn add_bar(zones: &mut Vec<Zone>, bar: &Bar, initial: Initial) -> Result<(), All
     } else {
         bar.right
     };
-    zones.push(Zone {
+    zones.push(DrawnZone {
         value,
         left,
         right: bar.left,
@@ -108,7 +112,7 @@ fn add_bar(zones: &mut Vec<Zone>, bar: &Bar, initial: Initial) -> Result<(), All
 }
 
 /// Makes a zone backward if its greatest beginning, so far its right edge, is left of its least end, its left edge.
-fn turn(zone: &mut Zone) {
+fn turn(zone: &mut DrawnZone) {
     if zone.right < zone.left {
         let end = zone.left;
         zone.left = zone.right;
@@ -118,7 +122,7 @@ fn turn(zone: &mut Zone) {
 }
 
 /// Puts the zones of one direction into rows, each into the first that is free.
-fn seat(alloc: Global, zones: &mut [Zone], is_forward: bool) -> Result<(), AllocError> {
+fn seat(alloc: Global, zones: &mut [DrawnZone], is_forward: bool) -> Result<(), AllocError> {
     let mut ends = Vec::new(alloc);
     for zone in zones {
         if zone.is_forward == is_forward {

@@ -22,8 +22,8 @@ use Rattle.show.specs.Scene.{IsScene}
 use Rattle.show.specs.declared.style.Theme.{Theme}
 use Rattle.show.specs.declared.style.Theme.TheVariants as shown_themes
 use Rattle.words.specs.Words.{AskedShow}
-use Rattle.words.specs.declared.show.Theme.{Theme as AskedTheme}
-use Rattle.words.specs.declared.show.Theme.TheVariants as asked_themes
+use Rattle.words.specs.declared.show.ThemeWord.{ThemeWord}
+use Rattle.words.specs.declared.show.ThemeWord.TheVariants as asked_themes
 
 -- the value that a claim has at first, or that nobody knows it
 abbrev pub IsInitialOf : ClaimModel → Initial → Type 0
@@ -55,7 +55,7 @@ asked_width None usual = usual
 asked_width (Some width) usual = min width (2 ^ 32 - 1)
 
 -- the colours of a picture that are asked for
-abbrev pub theme_by : AskedTheme → Theme
+abbrev pub theme_by : ThemeWord → Theme
 theme_by asked_themes.Auto = shown_themes.Auto
 theme_by asked_themes.Light = shown_themes.Light
 theme_by asked_themes.Dark = shown_themes.Dark

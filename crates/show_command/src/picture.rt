@@ -328,8 +328,8 @@ fn theme_of(asked: &Show) -> Theme
     ensures { result ≡ theme_by asked.now.theme }
 {
     match asked.theme {
-        words::Theme::Auto => Theme::Auto,
-        words::Theme::Light => Theme::Light,
-        words::Theme::Dark => Theme::Dark,
+        words::ThemeWord::Auto => Theme::Auto,
+        words::ThemeWord::Light => Theme::Light,
+        words::ThemeWord::Dark => Theme::Dark,
     }
 }

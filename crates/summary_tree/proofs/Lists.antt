@@ -46,8 +46,8 @@ module _ {X : Type 0} (p : X → Bool) where
   pub find_back : (xs ys : List X) → All (λ x. p x ≡ false) xs → find p (xs ++ ys) ≡ find p ys
   find_back xs ys none = find-append p xs ys ∙ ap (λ o. option_or o (find p ys)) (find_none xs none)
 
-  pub find_behind : (xs : List X) (y : X) (ys : List X) → All (λ x. p x ≡ false) xs → p y ≡ true → find p (xs ++ y ∷ ys) ≡ Some y
-  find_behind xs y ys none e = find_back xs (y ∷ ys) none ∙ ap (λ (b : Bool). cond b (Some y) (find p ys)) e
+  pub find_after : (xs : List X) (y : X) (ys : List X) → All (λ x. p x ≡ false) xs → p y ≡ true → find p (xs ++ y ∷ ys) ≡ Some y
+  find_after xs y ys none e = find_back xs (y ∷ ys) none ∙ ap (λ (b : Bool). cond b (Some y) (find p ys)) e
 
   -- the element that a search finds, with the elements before it and after it
   pub record IsFound (xs : List X) (y : X) : Type 0 where

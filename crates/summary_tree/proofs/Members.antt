@@ -70,18 +70,18 @@ module _ {K T : Type 0} (key : T → K) (before same : K → K → Bool) (order 
   key_stays : (new x : T) → key (in_place_of new x) ≡ key x
   key_stays new x = key_stays_by new x (cases_Bool (same (key x) (key new)))
 
-  all_behind : (new : T) (k : K) (items : List T) → All (λ y. IsTrue (before k (key y))) items → All (λ y. IsTrue (before k (key y))) (with_replaced key same new items)
-  all_behind new k [] h = h
-  all_behind new k (x ∷ xs) h =
+  all_following : (new : T) (k : K) (items : List T) → All (λ y. IsTrue (before k (key y))) items → All (λ y. IsTrue (before k (key y))) (with_replaced key same new items)
+  all_following new k [] h = h
+  all_following new k (x ∷ xs) h =
       All-cons (λ y. IsTrue (before k (key y))) (in_place_of new x) (with_replaced key same new xs)
       (subst (λ (j : K). IsTrue (before k j)) (sym (key_stays new x)) (All-head (λ y. IsTrue (before k (key y))) x xs h))
-      (all_behind new k xs (All-tail (λ y. IsTrue (before k (key y))) x xs h))
+      (all_following new k xs (All-tail (λ y. IsTrue (before k (key y))) x xs h))
 
   pub order_replaced : (new : T) (items : List T) → AreInOrder key before items → AreInOrder key before (with_replaced key same new items)
   order_replaced new [] by = pairs_nil Before
   order_replaced new (x ∷ xs) by =
       pairs_cons Before (in_place_of new x) (with_replaced key same new xs)
-      (subst (λ (j : K). All (λ y. IsTrue (before j (key y))) (with_replaced key same new xs)) (sym (key_stays new x)) (all_behind new (key x) xs (pairs_head Before x xs by)))
+      (subst (λ (j : K). All (λ y. IsTrue (before j (key y))) (with_replaced key same new xs)) (sym (key_stays new x)) (all_following new (key x) xs (pairs_head Before x xs by)))
       (order_replaced new xs (pairs_tail Before x xs by))
 
   pub count_replaced : (new : T) (items : List T) → length (with_replaced key same new items) ≡ length items

@@ -5,7 +5,7 @@ use Rattle.std.proofs.lemmas.Bool.{not_from_false}
 use Rattle.std.proofs.lemmas.List.{append-nil, map-append}
 use Rattle.std.proofs.lemmas.List.Elements.{All-cons, All-head, All-tail, All-weaker, filter-append}
 use Rattle.summary_tree.specs.Order.{IsStrictOrder, IsExact, AreInOrder, HasNoneAt, below, above, with_item, item_at, without_item, with_replaced}
-use Rattle.summary_tree.proofs.Lists.{filter_all, filter_none, find_front, find_back, find_behind}
+use Rattle.summary_tree.proofs.Lists.{filter_all, filter_none, find_front, find_back, find_after}
 use Rattle.summary_tree.proofs.Pairs.{pairs_front, pairs_back, pairs_across, pairs_head, pairs_tail, All-front, All-back}
 use Rattle.summary_tree.proofs.Places.{before-false, not_back, after_from, differs, one_key, other_key, keep_all, without_middle}
 
@@ -120,7 +120,7 @@ module _ {K T : Type 0} (key : T → K) (before : K → K → Bool) (order : IsS
     pub at_here : (k : K) (xs : List T) (x : T) (ys : List T) → AreInOrder key before (xs ++ x ∷ ys) → ¬ IsTrue (before k (key x)) → ¬ IsTrue (before (key x) k) → item_at key same k (xs ++ x ∷ ys) ≡ Some x
     at_here k xs x ys by n m =
         let e = one_key before order k (key x) n m in
-        find_behind (λ y. same (key y) k) xs x ys (other_around k xs x ys by e).0 (exact.here (key x) k e)
+        find_after (λ y. same (key y) k) xs x ys (other_around k xs x ys by e).0 (exact.here (key x) k e)
 
     -- the list without the item of a key, on the left of an item, on the right, and without the item itself
     pub without_left : (k : K) (xs : List T) (x : T) (ys : List T) → AreInOrder key before (xs ++ x ∷ ys) → IsTrue (before k (key x)) → without_item key same k (xs ++ x ∷ ys) ≡ without_item key same k xs ++ x ∷ ys

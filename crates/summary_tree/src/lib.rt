@@ -38,6 +38,7 @@ mod summarizes;
 mod tree;
 
 pub use keyed::Keyed;
+pub use look::Subtree;
 pub use node::{Node, Tree};
 pub use summarizes::Summarizes;
 pub use tree::SummaryTree;

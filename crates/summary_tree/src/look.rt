@@ -1,10 +1,16 @@
-//! The look-up of an item by its key. Other look-ups are those of the crates above.
+//! The look-up of an item by its key. Other look-ups are those of the crates above, which go over a `Subtree`.
 
 ghost use Rattle.std.specs.Prelude.{◌≡◌};
 ghost use Rattle.summary_tree.specs.Order.{AreInOrder, item_at};
 
 use crate::node::Tree;
 use crate::{Keyed, Summarizes};
+
+/// A tree, or a side of a node.
+#[derive(Clone, Copy)]
+pub struct Subtree<'s, T: Copy, S: Summarizes<T>> {
+    pub tree: &'s Tree<T, S>,
+}
 
 impl<T: Keyed, S: Summarizes<T>> Tree<T, S> {
     /// The item of that key.

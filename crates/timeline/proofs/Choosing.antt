@@ -57,25 +57,25 @@ shown_and_hidden ops ids extent chosen is =
 
 -- an element whose place passes is picked
 
-behind : {X : Type 0} (test : Bool) (y : X) (xs : List X) (x : X) → Contains xs x → Contains (if test then y ∷ xs else xs) x
-behind true y xs x (k, within, is) = (suc k, omega (arith, within), is)
-behind false y xs x has = has
+following : {X : Type 0} (test : Bool) (y : X) (xs : List X) (x : X) → Contains xs x → Contains (if test then y ∷ xs else xs) x
+following true y xs x (k, within, is) = (suc k, omega (arith, within), is)
+following false y xs x has = has
 
 picked_has : {X : Type 0} (passes : ℕ → Bool) (k place at : ℕ) (xs : List X) (x : X) → at ≡ place + k → slice_get xs k ≡ Some x → passes at ≡ true → Contains (picked passes place xs) x
-picked_has passes k place at [] x is stands passed = absurd (cc)
-picked_has passes zero place at (y ∷ xs) x is stands passed =
+picked_has passes k place at [] x is present passed = absurd (cc)
+picked_has passes zero place at (y ∷ xs) x is present passed =
     let here : at ≡ place = omega (arith, is) in
     let test : passes place ≡ true = subst (λ (p : ℕ). passes p ≡ true) here passed in
-    rw test (0, omega arith, same_Some y x stands)
-picked_has passes (suc k) place at (y ∷ xs) x is stands passed = behind (passes place) y (picked passes (place + 1) xs) x (picked_has passes k (place + 1) at xs x (omega (arith, is)) stands passed)
+    rw test (0, omega arith, same_Some y x present)
+picked_has passes (suc k) place at (y ∷ xs) x is present passed = following (passes place) y (picked passes (place + 1) xs) x (picked_has passes k (place + 1) at xs x (omega (arith, is)) present passed)
 
 places_have : (ids : List OpId) (k place at : ℕ) (ops : List Op) (op : Op) → at ≡ place + k → slice_get ops k ≡ Some op → is_among ids op.id ≡ true → Contains (places_of ids place ops) at
-places_have ids k place at [] op is stands asked = absurd (cc)
-places_have ids zero place at (o ∷ ops) op is stands asked =
+places_have ids k place at [] op is present asked = absurd (cc)
+places_have ids zero place at (o ∷ ops) op is present asked =
     let here : place ≡ at = omega (arith, is) in
-    let test : is_among ids o.id ≡ true = subst (λ (z : Op). is_among ids z.id ≡ true) (sym (same_Some o op stands)) asked in
+    let test : is_among ids o.id ≡ true = subst (λ (z : Op). is_among ids z.id ≡ true) (sym (same_Some o op present)) asked in
     rw test (0, omega arith, here)
-places_have ids (suc k) place at (o ∷ ops) op is stands asked = behind (is_among ids o.id) place (places_of ids (place + 1) ops) at (places_have ids k (place + 1) at ops op (omega (arith, is)) stands asked)
+places_have ids (suc k) place at (o ∷ ops) op is present asked = following (is_among ids o.id) place (places_of ids (place + 1) ops) at (places_have ids k (place + 1) at ops op (omega (arith, is)) present asked)
 
 -- a centre is near itself, so its place is not folded
 
@@ -133,10 +133,10 @@ shown_near (Around around) many centres place has = let folded = near_is_shown m
 pub asked_is_shown : (ops : List Op) (ids : List OpId) (extent : Extent) (chosen : Chosen) (op : Op) → IsChosen ops ids extent chosen → Contains ops op → is_among ids op.id ≡ true → Contains chosen.shown.items op
 asked_is_shown ops ids extent chosen op is has asked =
     let (k, within, at) = Contains-permutation ops is.sorted op is.by_beginning.each_once has in
-    let stands : slice_get is.sorted k ≡ Some op = slice_get-get_or is.sorted k op within ∙ ap Some at in
-    let centre = places_have ids k 0 k is.sorted op (omega arith) stands asked in
+    let present : slice_get is.sorted k ≡ Some op = slice_get-get_or is.sorted k op within ∙ ap Some at in
+    let centre = places_have ids k 0 k is.sorted op (omega arith) present asked in
     let shown = shown_near extent (length is.sorted) (places_of ids 0 is.sorted) k centre in
-    subst (λ (xs : List Op). Contains xs op) (sym is.shown) (picked_has (is_shown extent (length is.sorted) (places_of ids 0 is.sorted)) k 0 k is.sorted op (omega arith) stands shown)
+    subst (λ (xs : List Op). Contains xs op) (sym is.shown) (picked_has (is_shown extent (length is.sorted) (places_of ids 0 is.sorted)) k 0 k is.sorted op (omega arith) present shown)
 
 -- the operations that are shown are in order, and so are the beginnings of the others
 pub shown_rise : (ops : List Op) (ids : List OpId) (extent : Extent) (chosen : Chosen) → IsChosen ops ids extent chosen → IsNonDecreasingBy (λ (op : Op). op.begin.0) chosen.shown.items

@@ -20,7 +20,7 @@ use Rattle.timeline.specs.contracts.axis.MarkOrd.TheImpl.Laws.{total-law}
 use Rattle.timeline.specs.Axis.{AreMarks, AreSpans, IsEndAt, IsSpan, begin_mark, end_mark, end_marks, mark_cmp, marks_from}
 use Rattle.timeline.specs.Place.{AreSpaced}
 use Rattle.timeline.proofs.Loops.{get_pushed}
-use Rattle.timeline.proofs.Placing.{stands_right}
+use Rattle.timeline.proofs.Placing.{present_right}
 
 -- a binary search finds a mark that is there
 
@@ -76,43 +76,43 @@ found marks mark number within is = slice_get-get_or marks number mark within �
 
 -- the marks of each operation are among all marks
 
-pub begin_stands : (first number at : ℕ) (ops : List Op) (op : Op) → at ≡ first + number → slice_get ops number ≡ Some op → Contains (marks_from first ops) (begin_mark at op)
-begin_stands first number at [] op is stands = absurd (cc)
-begin_stands first zero at (o ∷ ops) op is stands =
+pub begin_present : (first number at : ℕ) (ops : List Op) (op : Op) → at ≡ first + number → slice_get ops number ≡ Some op → Contains (marks_from first ops) (begin_mark at op)
+begin_present first number at [] op is present = absurd (cc)
+begin_present first zero at (o ∷ ops) op is present =
     let one : o ≡ op = search rules in
     let here : first ≡ at = omega (arith, is) in
     (0, omega arith, subst (λ (n : ℕ). begin_mark first o ≡ begin_mark n op) here (ap (λ (z : Op). begin_mark first z) one))
-begin_stands first (suc number) at (o ∷ ops) op is stands =
-    let later = begin_stands (first + 1) number at ops op (omega (arith, is)) stands in
+begin_present first (suc number) at (o ∷ ops) op is present =
+    let later = begin_present (first + 1) number at ops op (omega (arith, is)) present in
     Contains-append_right (begin_mark first o ∷ end_marks first o.end) (marks_from (first + 1) ops) (begin_mark at op) later
 
 end_among : (number : ℕ) (ended : Option Moment) (end : Moment) → ended ≡ Some end → Contains (end_marks number ended) (end_mark number end)
 end_among number None end is = absurd (cc)
 end_among number (Some e) end is = (0, omega arith, ap (λ (z : Moment). end_mark number z) (search rules))
 
-pub end_stands : (first number at : ℕ) (ops : List Op) (op : Op) (end : Moment) → at ≡ first + number → slice_get ops number ≡ Some op → op.end ≡ Some end → Contains (marks_from first ops) (end_mark at end)
-end_stands first number at [] op end is stands ended = absurd (cc)
-end_stands first zero at (o ∷ ops) op end is stands ended =
+pub end_present : (first number at : ℕ) (ops : List Op) (op : Op) (end : Moment) → at ≡ first + number → slice_get ops number ≡ Some op → op.end ≡ Some end → Contains (marks_from first ops) (end_mark at end)
+end_present first number at [] op end is present ended = absurd (cc)
+end_present first zero at (o ∷ ops) op end is present ended =
     let one : o ≡ op = search rules in
     let here : first ≡ at = omega (arith, is) in
     let theirs : o.end ≡ Some end = ap (λ (z : Op). z.end) one ∙ ended in
     subst (λ (n : ℕ). Contains (marks_from first (o ∷ ops)) (end_mark n end)) here
     (Contains-append_left (begin_mark first o ∷ end_marks first o.end) (marks_from (first + 1) ops) (end_mark first end)
     (Contains-append_right (begin_mark first o ∷ []) (end_marks first o.end) (end_mark first end) (end_among first o.end end theirs)))
-end_stands first (suc number) at (o ∷ ops) op end is stands ended =
-    let later = end_stands (first + 1) number at ops op end (omega (arith, is)) stands ended in
+end_present first (suc number) at (o ∷ ops) op end is present ended =
+    let later = end_present (first + 1) number at ops op end (omega (arith, is)) present ended in
     Contains-append_right (begin_mark first o ∷ end_marks first o.end) (marks_from (first + 1) ops) (end_mark at end) later
 
 pub end_among_all : (ops : List Op) (marks : List Mark) (number : ℕ) (op : Op) → AreMarks ops marks → slice_get ops number ≡ Some op → IfSome op.end (λ (end : Moment). Contains marks (end_mark number end))
-end_among_all ops marks number op are stands = by_end op.end refl
+end_among_all ops marks number op are present = by_end op.end refl
   where
     by_end : (ended : Option Moment) → op.end ≡ ended → IfSome ended (λ (end : Moment). Contains marks (end_mark number end))
     by_end None is = tt
-    by_end (Some end) is = Contains-permutation (marks_from 0 ops) marks (end_mark number end) are.each_once (end_stands 0 number number ops op end (omega arith) stands is)
+    by_end (Some end) is = Contains-permutation (marks_from 0 ops) marks (end_mark number end) are.each_once (end_present 0 number number ops op end (omega arith) present is)
 
 -- a span of the operation at a number is that of any operation at this number
 pub span_there : (ops : List Op) (marks : List Mark) (number : ℕ) (op : Op) (span : BarSpan) → slice_get ops number ≡ Some op → IsSpan marks number op span → (other : Op) → slice_get ops number ≡ Some other → IsSpan marks number other span
-span_there ops marks number op span stands is other at = subst (λ (o : Op). IsSpan marks number o span) (same_Some op other (sym stands ∙ at)) is
+span_there ops marks number op span present is other at = subst (λ (o : Op). IsSpan marks number o span) (same_Some op other (sym present ∙ at)) is
 
 -- the spans with one more
 pub spans_more : (ops : List Op) (marks : List Mark) (number : ℕ) (old new : List BarSpan) (span : BarSpan) → new ≡ old ++ span ∷ [] → length old ≡ number
@@ -151,9 +151,9 @@ begin_first m n le rest = by_cases (cases_lt m n)
         let tie : nat_cmp m n ≡ Equal = subst (λ (k : ℕ). nat_cmp m k ≡ Equal) same (tied_itself nat_cmp_total m) in
         rw tie refl
 
-pub stands_before : (marks : List Mark) (i j number other : ℕ) (end : Moment) (op : Op) → IsSorted mark_cmp marks
+pub present_before : (marks : List Mark) (i j number other : ℕ) (end : Moment) (op : Op) → IsSorted mark_cmp marks
     → slice_get marks i ≡ Some (end_mark number end) → slice_get marks j ≡ Some (begin_mark other op) → end.0 < op.begin.0 → i < j
-stands_before marks i j number other end op sorted at_end at_begin lt = by_cases (cases_lt i j)
+present_before marks i j number other end op sorted at_end at_begin lt = by_cases (cases_lt i j)
   where
     by_cases : (i < j) ⊎ (j ≤ i) → i < j
     by_cases (inl less) = less
@@ -199,7 +199,7 @@ module _ (ops : List Op) (marks : List Mark) (spans : List BarSpan) (steps place
   left_exactly = (
     λ before.
         let moments : the_end.moment.0 < b.begin.0 = subst (λ (e : Option Moment). EndsBefore e b.begin) the_end.is before in
-        stands_right steps places end t.begin apart positive many (stands_before marks end t.begin i j the_end.moment b are.in_order the_end.marked begins moments) (omega (arith, begins_within, room)),
+        present_right steps places end t.begin apart positive many (present_before marks end t.begin i j the_end.moment b are.in_order the_end.marked begins moments) (omega (arith, begins_within, room)),
     λ left. subst (λ (e : Option Moment). EndsBefore e b.begin) (sym the_end.is) (by_number left (cases_lt end t.begin)),
   )
     where
@@ -211,7 +211,7 @@ module _ (ops : List Op) (marks : List Mark) (spans : List BarSpan) (steps place
       by_number left (inr le) = by_more (cases_lt t.begin end)
         where
           by_more : (t.begin < end) ⊎ (end ≤ t.begin) → the_end.moment.0 < b.begin.0
-          by_more (inl more) = absurd (omega (arith, left, stands_right steps places t.begin end apart positive many more (omega (arith, end_within, room))))
+          by_more (inl more) = absurd (omega (arith, left, present_right steps places t.begin end apart positive many more (omega (arith, end_within, room))))
           by_more (inr ge) =
               let same : end ≡ t.begin = omega (arith, le, ge) in
               absurd (omega (arith, left, ap (slice_index places) same))

@@ -32,7 +32,7 @@ before_same places place (suc number) within = old_place places place number (om
 
 module _ (steps places : List ℕ) (wants : List Want) (number place : ℕ) (here : number ≡ length places) where
   pub apart_more : AreSpaced steps places → before places number + slice_index steps number ≤ place → AreSpaced steps (places ++ place ∷ [])
-  apart_more apart behind n within = by_cases (cases_lt n number)
+  apart_more apart following n within = by_cases (cases_lt n number)
     where
       by_cases : (n < number) ⊎ (number ≤ n) → before (places ++ place ∷ []) n + slice_index steps n ≤ slice_index (places ++ place ∷ []) n
       by_cases (inl lt) =
@@ -40,7 +40,7 @@ module _ (steps places : List ℕ) (wants : List Want) (number place : ℕ) (her
           rw (before_same places place n (omega (arith, old)), old_place places place n old) (apart n old)
       by_cases (inr le) =
           let same : n ≡ number = omega (arith, le, within, many_more places place, here) in
-          rw (before_same places place n (omega (arith, same, here)), new_place places place n (same ∙ here)) (subst (λ (k : ℕ). before places k + slice_index steps k ≤ place) (sym same) behind)
+          rw (before_same places place n (omega (arith, same, here)), new_place places place n (same ∙ here)) (subst (λ (k : ℕ). before places k + slice_index steps k ≤ place) (sym same) following)
 
   pub bounded_more : AreBounded places → IsBounded number place → AreBounded (places ++ place ∷ [])
   bounded_more bounded now n within = by_cases (cases_lt n number)
@@ -98,8 +98,8 @@ places_rise steps places apart i j d le within =
     let rises = subst (λ (n : ℕ). slice_index places i ≤ slice_index places n) same (rise_by steps places i (j - i) (j - i) apart (omega (arith, le, within)) refl) in
     subst (λ (n : ℕ). n ≤ get_or places j d) (get_or_default places i 0 d inside) (subst (λ (n : ℕ). slice_index places i ≤ n) (get_or_default places j 0 d within) rises)
 
-pub stands_right : (steps places : List ℕ) (i j : ℕ) → AreSpaced steps places → All (λ (step : ℕ). 0 < step) steps → length places ≡ length steps → i < j → j < length places → slice_index places i < slice_index places j
-stands_right steps places i j apart positive many lt within =
+pub present_right : (steps places : List ℕ) (i j : ℕ) → AreSpaced steps places → All (λ (step : ℕ). 0 < step) steps → length places ≡ length steps → i < j → j < length places → slice_index places i < slice_index places j
+present_right steps places i j apart positive many lt within =
     let d = j - suc i in
     let same : i + suc d ≡ j = omega (arith, lt) in
     subst (λ (n : ℕ). slice_index places i < slice_index places n) same (rises_by steps places i d apart positive many (omega (arith, within, same)))
@@ -139,16 +139,16 @@ put_before_more places wants from number place next none rises here within befor
 
 pub put_by_more : (places : List ℕ) (wants : List Want) (from number least place next wanted : ℕ) (none : Want) → from ≤ number → wanted ≡ wanted_by places (get_or wants number none) → number < length wants
     → (next ≡ place) ⊎ (next ≡ wanted) → (place ≡ least) ⊎ IsPutBy places wants from number place → (next ≡ least) ⊎ IsPutBy places wants from (number + 1) next
-put_by_more places wants from number least place next wanted none behind is within (inl old) (inl first) = inl (old ∙ first)
-put_by_more places wants from number least place next wanted none behind is within (inl old) (inr by) = inr (record {
+put_by_more places wants from number least place next wanted none following is within (inl old) (inl first) = inl (old ∙ first)
+put_by_more places wants from number least place next wanted none following is within (inl old) (inr by) = inr (record {
   number = by.number;
-  behind = by.behind;
+  following = by.following;
   before = omega (arith, by.before);
   puts = λ d. by.puts d ∙ sym old;
 })
-put_by_more places wants from number least place next wanted none behind is within (inr new) tight = inr (record {
+put_by_more places wants from number least place next wanted none following is within (inr new) tight = inr (record {
   number = number;
-  behind = behind;
+  following = following;
   before = omega arith;
   puts = λ d. ap (wanted_by places) (get_or_default wants number d none within) ∙ sym is ∙ sym new;
 })
@@ -173,17 +173,6 @@ pub record ArePlaced (steps places : List ℕ) (wants : List Want) (number next 
   pub done : AllWithin (λ (want : Want). want.to < number) wants 0 next
   pub kept : AllWithin (IsDistanceKept places) wants 0 next
   pub left : AllWithin (λ (want : Want). number ≤ want.to) wants next (length wants)
-
-pub none_placed : (steps : List ℕ) (wants : List Want) → ArePlaced steps [] wants 0 0
-none_placed steps wants = record {
-  many = refl;
-  bounded = λ n within. absurd (omega (arith, within));
-  apart = λ n within. absurd (omega (arith, within));
-  tight = λ n within. absurd (omega (arith, within));
-  done = λ k d low high. absurd (omega (arith, high));
-  kept = λ k d low high. absurd (omega (arith, high));
-  left = λ k d low high. omega arith;
-}
 
 module _ (steps places : List ℕ) (wants : List Want) (number next end place : ℕ) (none : Want) (placed : ArePlaced steps places wants number next) (within : All (IsWithin steps) wants)
     (order : (next ≤ end) × (end ≤ length wants)) (for_it : AllWithin (λ (want : Want). want.to ≡ number) wants next end) where
@@ -225,7 +214,7 @@ module _ (steps places : List ℕ) (wants : List Want) (number next end place : 
   tight_here (inr by) =
       let want = get_or wants by.number none in
       let inside : by.number < length wants = omega (arith, by.before, order.1) in
-      let to : want.to ≡ number = for_it by.number none by.behind by.before in
+      let to : want.to ≡ number = for_it by.number none by.following by.before in
       inr (by.number, want, inside, get_or_default wants by.number want none inside, reason_now steps places wants number place here want (omega (arith, from_before by.number none by.before, to)) to (by.puts none))
 
   tight_more : (place ≡ before places number + slice_index steps number) ⊎ IsPutBy places wants next end place → AreTight steps wants (places ++ place ∷ [])
@@ -239,10 +228,10 @@ module _ (steps places : List ℕ) (wants : List Want) (number next end place : 
 
   pub placed_more : (new : List ℕ) → new ≡ places ++ place ∷ [] → IsBounded number place → before places number + slice_index steps number ≤ place → AllWithin (IsPutBefore places place) wants next end
       → (place ≡ before places number + slice_index steps number) ⊎ IsPutBy places wants next end place → AllWithin (λ (want : Want). number < want.to) wants end (length wants) → ArePlaced steps new wants (number + 1) end
-  placed_more new pushed bounded behind put tight later = subst (λ (ps : List ℕ). ArePlaced steps ps wants (number + 1) end) (sym pushed) (record {
+  placed_more new pushed bounded following put tight later = subst (λ (ps : List ℕ). ArePlaced steps ps wants (number + 1) end) (sym pushed) (record {
     many = omega (arith, many_more places place, here);
     bounded = bounded_more steps places wants number place here placed.bounded bounded;
-    apart = apart_more steps places wants number place here placed.apart behind;
+    apart = apart_more steps places wants number place here placed.apart following;
     tight = tight_more tight;
     done = done_more;
     kept = kept_more put;

@@ -137,37 +137,37 @@ module _ (ops : List Op) (sorted : IsNonDecreasingBy (λ (op : Op). op.begin.0) 
 
     -- an earlier seat of this lane comes before the new tail
     old_here : (s : Seat) → s.op < number → StandsIn ops tails s → s.lane ≡ lane → StandsIn ops new s
-    old_here s below stands same =
-        let is : slice_get tails lane ≡ Some stands.tail = subst (λ (l : ℕ). slice_get tails l ≡ Some stands.tail) same stands.is in
-        let theirs = free.free stands.tail is in
+    old_here s below present same =
+        let is : slice_get tails lane ≡ Some present.tail = subst (λ (l : ℕ). slice_get tails l ≡ Some present.tail) same present.is in
+        let theirs = free.free present.tail is in
         record {
           tail = tail_of op number;
           is = subst (λ (l : ℕ). slice_get new l ≡ Some (tail_of op number)) (sym same) mine;
-          process = sym theirs.0 ∙ stands.process;
-          feeder = sym theirs.1 ∙ stands.feeder;
+          process = sym theirs.0 ∙ present.process;
+          feeder = sym theirs.1 ∙ present.feeder;
           rises = omega (arith, below);
           before = λ lt x y at_x at_y.
               subst (Precedes x) (same_some op y (sym at ∙ at_y))
-              (precedes tails lane s stands.tail x free is (so_far.tails_below lane stands.tail is) stands.rises stands.before at_x);
+              (precedes tails lane s present.tail x free is (so_far.tails_below lane present.tail is) present.rises present.before at_x);
         }
 
     old_elsewhere : (s : Seat) → StandsIn ops tails s → s.lane ≢ lane → StandsIn ops new s
-    old_elsewhere s stands other = record {
-      tail = stands.tail;
-      is = subst (λ (ts : List Tail). slice_get ts s.lane ≡ Some stands.tail) (sym now) (put_elsewhere tails lane s.lane (tail_of op number) stands.tail other stands.is);
-      process = stands.process;
-      feeder = stands.feeder;
-      rises = stands.rises;
-      before = stands.before;
+    old_elsewhere s present other = record {
+      tail = present.tail;
+      is = subst (λ (ts : List Tail). slice_get ts s.lane ≡ Some present.tail) (sym now) (put_elsewhere tails lane s.lane (tail_of op number) present.tail other present.is);
+      process = present.process;
+      feeder = present.feeder;
+      rises = present.rises;
+      before = present.before;
     }
 
     old_in : (s : Seat) → (s.op < number) × StandsIn ops tails s → StandsIn ops new s
-    old_in s (below, stands) = by_cases (cases_lt s.lane lane) (cases_lt lane s.lane)
+    old_in s (below, present) = by_cases (cases_lt s.lane lane) (cases_lt lane s.lane)
       where
         by_cases : (s.lane < lane) ⊎ (lane ≤ s.lane) → (lane < s.lane) ⊎ (s.lane ≤ lane) → StandsIn ops new s
-        by_cases (inl lt) h = old_elsewhere s stands (λ e. omega (arith, lt, e))
-        by_cases (inr le) (inl lt) = old_elsewhere s stands (λ e. omega (arith, lt, e))
-        by_cases (inr le) (inr ge) = old_here s below stands (omega (arith, le, ge))
+        by_cases (inl lt) h = old_elsewhere s present (λ e. omega (arith, lt, e))
+        by_cases (inr le) (inl lt) = old_elsewhere s present (λ e. omega (arith, lt, e))
+        by_cases (inr le) (inr ge) = old_here s below present (omega (arith, le, ge))
 
     tails_below : (l : ℕ) (tail : Tail) → slice_get new l ≡ Some tail → tail.op < number + 1
     tails_below l tail is = by_cases (cases_lt l lane) (cases_lt lane l)
@@ -190,15 +190,15 @@ module _ (ops : List Op) (sorted : IsNonDecreasingBy (λ (op : Op). op.begin.0) 
     new_turn : (a : Seat) → Contains seats a → a.lane ≡ lane → AreInTurn ops a seat
     new_turn a has same =
         let below = All-contains (λ (s : Seat). s.op < number) seats a so_far.below has in
-        let stands = All-contains (StandsIn ops tails) seats a so_far.lanes has in
-        let is : slice_get tails lane ≡ Some stands.tail = subst (λ (l : ℕ). slice_get tails l ≡ Some stands.tail) same stands.is in
-        let theirs = free.free stands.tail is in
+        let present = All-contains (StandsIn ops tails) seats a so_far.lanes has in
+        let is : slice_get tails lane ≡ Some present.tail = subst (λ (l : ℕ). slice_get tails l ≡ Some present.tail) same present.is in
+        let theirs = free.free present.tail is in
         record {
-          process = sym stands.process ∙ theirs.0;
-          feeder = sym stands.feeder ∙ theirs.1;
+          process = sym present.process ∙ theirs.0;
+          feeder = sym present.feeder ∙ theirs.1;
           before = λ x y at_x at_y.
               subst (Precedes x) (same_some op y (sym at ∙ at_y))
-              (precedes tails lane a stands.tail x free is (so_far.tails_below lane stands.tail is) stands.rises stands.before at_x);
+              (precedes tails lane a present.tail x free is (so_far.tails_below lane present.tail is) present.rises present.before at_x);
         }
 
     in_turn : (a b : Seat) → Contains (seats ++ seat ∷ []) a → Contains (seats ++ seat ∷ []) b → a.lane ≡ b.lane → a.op < b.op → AreInTurn ops a b
@@ -217,7 +217,7 @@ module _ (ops : List Op) (sorted : IsNonDecreasingBy (λ (op : Op). op.begin.0) 
     one_more = record {
       numbered = map-append (λ (s : Seat). s.op) seats (seat ∷ []) ∙ ap (λ (ns : List ℕ). ns ++ number ∷ []) so_far.numbered ∙ sym (range_more number);
       below = All-push (λ (s : Seat). s.op < number + 1) seats seat (All-weaker (λ (s : Seat). s.op < number) (λ (s : Seat). s.op < number + 1) (λ s lt. omega (arith, lt)) seats so_far.below) (omega arith);
-      theirs = All-push (IsSeat ops) seats seat so_far.theirs (record { op = op; stands = at; process = refl; feeder = refl });
+      theirs = All-push (IsSeat ops) seats seat so_far.theirs (record { op = op; present = at; process = refl; feeder = refl });
       lanes = All-push (StandsIn ops new) seats seat (λ k d lt. old_in (get_or seats k d) (so_far.below k d lt, so_far.lanes k d lt)) mine_in;
       tails_below = tails_below;
       in_turn = in_turn;

@@ -63,10 +63,10 @@ folded_of before [] moments = (length moments - before) ∷ []
 folded_of before (mark ∷ marks) moments = (began moments mark.moment - before) ∷ folded_of (began moments mark.moment) marks moments
 
 -- how many operations are ongoing after the mark, where this many are ongoing before it
-abbrev pub ongoing_behind : Mark → ℕ → ℕ
-ongoing_behind mark many = if mark.is_end then many - 1 else many + 1
+abbrev pub ongoing_after : Mark → ℕ → ℕ
+ongoing_after mark many = if mark.is_end then many - 1 else many + 1
 
 -- how many operations are ongoing before each mark, where this many are ongoing before the first
 abbrev pub ongoing_before : ℕ → List Mark → List ℕ
 ongoing_before many [] = []
-ongoing_before many (mark ∷ marks) = many ∷ ongoing_before (ongoing_behind mark many) marks
+ongoing_before many (mark ∷ marks) = many ∷ ongoing_before (ongoing_after mark many) marks

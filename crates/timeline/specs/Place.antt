@@ -39,7 +39,7 @@ IsPutBefore places place want = wanted_by places want ≤ place
 -- a want whose index is in this range puts its mark exactly at this place
 pub record IsPutBy (places : List ℕ) (wants : List Want) (from to place : ℕ) : Type 0 where
   pub number : ℕ
-  pub behind : from ≤ number
+  pub following : from ≤ number
   pub before : number < to
   pub puts : (d : Want) → wanted_by places (slice_index_or wants number d) ≡ place
 

@@ -13,7 +13,7 @@ use Rattle.timeline.specs.contracts.seat.SeatOrd.TheImpl as seat_ord
 -- the seat is for an operation of the list, and has its process and its trace
 pub record IsSeat (ops : List Op) (seat : Seat) : Type 0 where
   pub op : Op
-  pub stands : slice_get ops seat.op ≡ Some op
+  pub present : slice_get ops seat.op ≡ Some op
   pub process : seat.process ≡ op.process
   pub feeder : seat.feeder ≡ op.id.feeder
 

@@ -109,7 +109,7 @@ fn span_of(marks: &[Mark], number: usize, op: &Op) -> BarSpan
 /// The index of the mark.
 fn number_of(marks: &[Mark], mark: Mark) -> usize
     requires sorted { IsSorted mark_cmp marks.now }
-    requires stands { Contains marks.now mark }
+    requires present { Contains marks.now mark }
     ensures { slice_get marks.now result ≡ Some mark }
 {
     match marks.binary_search(&mark) {

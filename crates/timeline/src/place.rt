@@ -43,7 +43,7 @@ fn place_all(alloc: Global, steps: &[u32], wants: &[Want]) -> Result<Vec<u128>, 
     let mut next = 0;
     for number in 0..steps.len() {
         let end = end_of(wants, next, number);
-        let least = behind(&places, steps[number]);
+        let least = following(&places, steps[number]);
         places.push(farthest(&places, wants, next, end, least))?;
         next = end;
     }
@@ -67,7 +67,7 @@ fn end_of(wants: &[Want], from: usize, mark: usize) -> usize
 }
 
 /// The place that is the step right of the last place, or of the left edge where there is none.
-fn behind(places: &[u128], step: u32) -> u128
+fn following(places: &[u128], step: u32) -> u128
     requires { AreBounded places.now }
     ensures value { result ≡ before places.now (length places.now) + step }
     ensures bounded { IsBounded (length places.now) result }
@@ -83,7 +83,7 @@ fn farthest(places: &[u128], wants: &[Want], from: usize, to: usize, least: u128
     requires order { (from ≤ to) × (to ≤ length wants.now) }
     requires within { AllWithin (λ want. want.from < length places.now) wants.now from to }
     requires bounded { AreBounded places.now × IsBounded (length places.now) least }
-    ensures behind { least ≤ result }
+    ensures following { least ≤ result }
     ensures kept { AllWithin (IsPutBefore places.now result) wants.now from to }
     ensures tight { (result ≡ least) ⊎ IsPutBy places.now wants.now from to result }
     ensures bounded { IsBounded (length places.now) result }

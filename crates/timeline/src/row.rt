@@ -2,7 +2,7 @@
 
 ghost use Rattle.std.specs.Prelude.{◌≡◌, ◌+◌, ◌-◌, ◌^◌, ◌≤◌, ◌<◌, ◌⊎◌, IfOk, length, slice_index};
 ghost use Rattle.std.specs.List.Sorted.{IsNonDecreasing};
-ghost use Rattle.timeline.specs.Axis.{ongoing_before, ongoing_behind};
+ghost use Rattle.timeline.specs.Axis.{ongoing_before, ongoing_after};
 ghost use Rattle.timeline.specs.Row.{AreRowsUpTo, FitsRow};
 
 use crate::axis::Mark;
@@ -47,7 +47,7 @@ fn ongoing(alloc: Global, marks: &[Mark]) -> Result<Vec<usize>, AllocError>
 /// How many operations are ongoing after the mark, where `many` are ongoing before it.
 fn after(mark: Mark, many: usize) -> usize
     requires { many + 1 < 2 ^ 64 }
-    ensures { result ≡ ongoing_behind mark many }
+    ensures { result ≡ ongoing_after mark many }
 {
     if mark.is_end {
         many.saturating_sub(1)
@@ -61,7 +61,7 @@ fn end_of_row(places: &[u128], ongoing: &[usize], start: usize, width: u32) -> u
     requires within { start < length ongoing.now }
     requires rising { IsNonDecreasing places.now }
     requires many { length ongoing.now ≤ length places.now }
-    ensures behind { start < result }
+    ensures following { start < result }
     ensures within { result ≤ length ongoing.now }
     ensures row { FitsRow places.now width start result }
 {
@@ -77,7 +77,7 @@ fn end_of_row(places: &[u128], ongoing: &[usize], start: usize, width: u32) -> u
 /// The number of the first mark after `start` that is further right than `farthest`, or `many` where none is.
 fn end_within(places: &[u128], many: usize, start: usize, farthest: u128) -> usize
     requires within { (start < many) × (many ≤ length places.now) }
-    ensures behind { start < result }
+    ensures following { start < result }
     ensures within { result ≤ many }
     ensures row { (result ≡ start + 1) ⊎ (slice_index places.now (result - 1) ≤ farthest) }
 {
@@ -91,10 +91,10 @@ fn end_within(places: &[u128], many: usize, start: usize, farthest: u128) -> usi
 /// Of `end` and the earlier ends of the row whose last mark is not left of `near`, the one before which the fewest
 /// operations are ongoing.
 fn best_end(places: &[u128], ongoing: &[usize], start: usize, end: usize, near: u128) -> usize
-    requires behind { start < end }
+    requires following { start < end }
     requires within { end < length ongoing.now }
     requires many { length ongoing.now ≤ length places.now }
-    ensures behind { start < result }
+    ensures following { start < result }
     ensures within { result ≤ end }
 {
     let mut best = end;

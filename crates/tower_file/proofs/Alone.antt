@@ -67,92 +67,92 @@ file = record { kind = kinds.Map; text = alone_text }
 
 -- ---- each element is spelled out
 
-stands_levels_key : (depth : ℕ) → Stands depth levels_key
+present_levels_key : (depth : ℕ) → Stands depth levels_key
 unfolding class_of
-stands_levels_key depth = atom depth 58 (codes "levels") refl refl
+present_levels_key depth = atom depth 58 (codes "levels") refl refl
 
-stands_name_key : (depth : ℕ) → Stands depth name_key
+present_name_key : (depth : ℕ) → Stands depth name_key
 unfolding class_of
-stands_name_key depth = atom depth 58 (codes "name") refl refl
+present_name_key depth = atom depth 58 (codes "name") refl refl
 
-stands_top : (depth : ℕ) → Stands depth top
+present_top : (depth : ℕ) → Stands depth top
 unfolding class_of
-stands_top depth = atom depth 116 (codes "op") refl refl
+present_top depth = atom depth 116 (codes "op") refl refl
 
-stands_registers_key : (depth : ℕ) → Stands depth registers_key
+present_registers_key : (depth : ℕ) → Stands depth registers_key
 unfolding class_of
-stands_registers_key depth = atom depth 58 (codes "registers") refl refl
+present_registers_key depth = atom depth 58 (codes "registers") refl refl
 
-stands_r : (depth : ℕ) → Stands depth r
+present_r : (depth : ℕ) → Stands depth r
 unfolding class_of
-stands_r depth = atom depth 114 [] refl refl
+present_r depth = atom depth 114 [] refl refl
 
-stands_kind_key : (depth : ℕ) → Stands depth kind_key
+present_kind_key : (depth : ℕ) → Stands depth kind_key
 unfolding class_of
-stands_kind_key depth = atom depth 58 (codes "kind") refl refl
+present_kind_key depth = atom depth 58 (codes "kind") refl refl
 
-stands_safe : (depth : ℕ) → Stands depth safe
+present_safe : (depth : ℕ) → Stands depth safe
 unfolding class_of
-stands_safe depth = atom depth 58 (codes "safe") refl refl
+present_safe depth = atom depth 58 (codes "safe") refl refl
 
-stands_writers_key : (depth : ℕ) → Stands depth writers_key
+present_writers_key : (depth : ℕ) → Stands depth writers_key
 unfolding class_of
-stands_writers_key depth = atom depth 58 (codes "writers") refl refl
+present_writers_key depth = atom depth 58 (codes "writers") refl refl
 
-stands_initial_key : (depth : ℕ) → Stands depth initial_key
+present_initial_key : (depth : ℕ) → Stands depth initial_key
 unfolding class_of
-stands_initial_key depth = atom depth 58 (codes "initial") refl refl
+present_initial_key depth = atom depth 58 (codes "initial") refl refl
 
-stands_nought : (depth : ℕ) → Stands depth nought
+present_nought : (depth : ℕ) → Stands depth nought
 unfolding class_of
-stands_nought depth = atom depth 48 [] refl refl
+present_nought depth = atom depth 48 [] refl refl
 
 all_writers : All_stand 0 (nought ∷ [])
-all_writers = (stands_nought 0, tt)
+all_writers = (present_nought 0, tt)
 
-stands_writers : Stands 1 writers
-stands_writers room place rest e = vector 0 nought [] all_writers room place rest
+present_writers : Stands 1 writers
+present_writers room place rest e = vector 0 nought [] all_writers room place rest
 
-abbrev behind_name : List Item
-behind_name = r ∷ kind_key ∷ safe ∷ writers_key ∷ writers ∷ initial_key ∷ nought ∷ []
+abbrev after_name : List Item
+after_name = r ∷ kind_key ∷ safe ∷ writers_key ∷ writers ∷ initial_key ∷ nought ∷ []
 
-all_register : All_stand 1 (name_key ∷ behind_name)
-all_register = (stands_name_key 1, (stands_r 1, (stands_kind_key 1, (stands_safe 1, (stands_writers_key 1, (stands_writers, (stands_initial_key 1, (stands_nought 1, tt))))))))
+all_register : All_stand 1 (name_key ∷ after_name)
+all_register = (present_name_key 1, (present_r 1, (present_kind_key 1, (present_safe 1, (present_writers_key 1, (present_writers, (present_initial_key 1, (present_nought 1, tt))))))))
 
-stands_register : Stands 2 register
-stands_register room place rest e = map_of 1 name_key behind_name all_register room place rest refl
+present_register : Stands 2 register
+present_register room place rest e = map_of 1 name_key after_name all_register room place rest refl
 
 all_registers : All_stand 2 (register ∷ [])
-all_registers = (stands_register, tt)
+all_registers = (present_register, tt)
 
-stands_registers : Stands 3 registers
-stands_registers room place rest e = vector 2 register [] all_registers room place rest
+present_registers : Stands 3 registers
+present_registers room place rest e = vector 2 register [] all_registers room place rest
 
-abbrev behind_level_name : List Item
-behind_level_name = top ∷ registers_key ∷ registers ∷ []
+abbrev after_level_name : List Item
+after_level_name = top ∷ registers_key ∷ registers ∷ []
 
-all_level : All_stand 3 (name_key ∷ behind_level_name)
-all_level = (stands_name_key 3, (stands_top 3, (stands_registers_key 3, (stands_registers, tt))))
+all_level : All_stand 3 (name_key ∷ after_level_name)
+all_level = (present_name_key 3, (present_top 3, (present_registers_key 3, (present_registers, tt))))
 
-stands_level : Stands 4 level
-stands_level room place rest e = map_of 3 name_key behind_level_name all_level room place rest refl
+present_level : Stands 4 level
+present_level room place rest e = map_of 3 name_key after_level_name all_level room place rest refl
 
 all_levels : All_stand 4 (level ∷ [])
-all_levels = (stands_level, tt)
+all_levels = (present_level, tt)
 
-stands_levels : Stands 5 levels
-stands_levels room place rest e = vector 4 level [] all_levels room place rest
+present_levels : Stands 5 levels
+present_levels room place rest e = vector 4 level [] all_levels room place rest
 
 all_file : All_stand 5 (levels_key ∷ levels ∷ [])
-all_file = (stands_levels_key 5, (stands_levels, tt))
+all_file = (present_levels_key 5, (present_levels, tt))
 
-stands_file : Stands 6 file
-stands_file room place rest e = map_of 5 levels_key (levels ∷ []) all_file room place rest refl
+present_file : Stands 6 file
+present_file room place rest e = map_of 5 levels_key (levels ∷ []) all_file room place rest refl
 
 -- ---- what the elements are made of
 
 is_text : IsText alone_text (piece_at 0 file ∷ [])
-is_text = (82, 82, on_inside 6 58 0 file [] [] (stands_file, tt) tt, nothing)
+is_text = (82, 82, on_inside 6 58 0 file [] [] (present_file, tt) tt, nothing)
 
 -- the elements, at their places in the text
 abbrev at : ℕ → Item → ElementModel
@@ -171,7 +171,7 @@ abbrev level_pairs : List (ElementModel × ElementModel)
 level_pairs = (at 11 name_key, at 17 top) ∷ (at 21 registers_key, at 32 registers) ∷ []
 
 level_has : HasPairs (at 10 level) level_pairs
-level_has = pairs_of (at 10 level) (inside name_key behind_level_name (125 ∷ [])) level_pairs 79 refl refl (on_inside 3 60 11 name_key behind_level_name (125 ∷ []) all_level curly_ends)
+level_has = pairs_of (at 10 level) (inside name_key after_level_name (125 ∷ [])) level_pairs 79 refl refl (on_inside 3 60 11 name_key after_level_name (125 ∷ []) all_level curly_ends)
 
 registers_have : HasMembers (at 32 registers) (at 33 register ∷ [])
 registers_have = members_of (at 32 registers) (inside register [] (93 ∷ [])) (at 33 register ∷ []) 78 refl refl (on_inside 2 61 33 register [] (93 ∷ []) all_registers square_ends)
@@ -180,7 +180,7 @@ abbrev register_pairs : List (ElementModel × ElementModel)
 register_pairs = (at 34 name_key, at 40 r) ∷ (at 42 kind_key, at 48 safe) ∷ (at 54 writers_key, at 63 writers) ∷ (at 67 initial_key, at 76 nought) ∷ []
 
 register_has : HasPairs (at 33 register) register_pairs
-register_has = pairs_of (at 33 register) (inside name_key behind_name (125 ∷ [])) register_pairs 77 refl refl (on_inside 1 62 34 name_key behind_name (125 ∷ []) all_register curly_ends)
+register_has = pairs_of (at 33 register) (inside name_key after_name (125 ∷ [])) register_pairs 77 refl refl (on_inside 1 62 34 name_key after_name (125 ∷ []) all_register curly_ends)
 
 writers_have : HasMembers (at 63 writers) (at 64 nought ∷ [])
 writers_have = members_of (at 63 writers) (inside nought [] (93 ∷ [])) (at 64 nought ∷ []) 65 refl refl (on_inside 0 63 64 nought [] (93 ∷ []) all_writers square_ends)

@@ -43,9 +43,6 @@ abbrev pub Passed : List ℕ → MapView → MapView → Type 0
 Passed key first view = (pairs : List (ElementModel × ElementModel)) → PairsLeft first pairs
     → (left : List (ElementModel × ElementModel)) × PairsLeft view left × (pairs_under key pairs ≡ pairs_under key left)
 
-pub passed_none : (key : List ℕ) (view : MapView) → Passed key view view
-passed_none key view pairs h = (pairs, h, refl)
-
 on_by : (key : List ℕ) (after : MapView) (name value : Element) (pairs left : List (ElementModel × ElementModel)) → pairs_under key pairs ≡ pairs_under key left → NextPair (Some (name, value)) after left
     → is_word key (piece_of name) ≡ false → (l : List (ElementModel × ElementModel)) × PairsLeft after l × (pairs_under key pairs ≡ pairs_under key l)
 on_by key after name value pairs [] e n w = absurd n
@@ -71,21 +68,7 @@ pub passed_found : (key : List ℕ) (first view after : MapView) (name value : E
 passed_found key first view after name value s n w pairs h =
     let k = s pairs h in found_by key after name value pairs k.0 k.2 (n k.0 k.1) w
 
-pub passed_ends : (key : List ℕ) (first view after : MapView) → Passed key first view → Gives_pair view None after
-    → (pairs : List (ElementModel × ElementModel)) → PairsLeft first pairs → pairs_under key pairs ≡ []
-passed_ends key first view after s n pairs h =
-    let k = s pairs h in k.2 ∙ ap (pairs_under key) (n k.0 k.1)
-
 -- what is at a key
-
-pub at_none : (whole : ElementModel) (pairs : List (ElementModel × ElementModel)) → pairs ≡ [] → whole ≡ at_key whole pairs
-at_none whole pairs e = rw e refl
-
-pub at_one : (whole : ElementModel) (pairs left : List (ElementModel × ElementModel)) (pair : ElementModel × ElementModel) → pairs ≡ pair ∷ left → left ≡ [] → pair.1 ≡ at_key whole pairs
-at_one whole pairs left pair e l = rw (e, l) refl
-
-pub at_more : (whole : ElementModel) (pairs left rest : List (ElementModel × ElementModel)) (first second : ElementModel × ElementModel) → pairs ≡ first ∷ left → left ≡ second ∷ rest → second.0 ≡ at_key whole pairs
-at_more whole pairs left rest first second e l = rw (e, l) refl
 
 -- the values of pairs
 abbrev values : List (ElementModel × ElementModel) → List ElementModel

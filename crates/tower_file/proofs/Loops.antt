@@ -17,38 +17,38 @@ Gives_next view element after = (members : List ElementModel) → MembersLeft vi
 
 module _ {Y : Type 0} (read : ElementModel → Result Y TowerFault) where
   -- what was read, followed by what is read of the rest
-  abbrev pub behind : List Y → Result (List Y) TowerFault → Result (List Y) TowerFault
-  behind done rest = rest >>= (λ ys. Ok (done ++ ys))
+  abbrev pub following : List Y → Result (List Y) TowerFault → Result (List Y) TowerFault
+  following done rest = rest >>= (λ ys. Ok (done ++ ys))
 
-  behind_nothing : (rest : Result (List Y) TowerFault) → rest ≡ behind [] rest
-  behind_nothing (Ok ys) = refl
-  behind_nothing (Err fault) = refl
+  following_nothing : (rest : Result (List Y) TowerFault) → rest ≡ following [] rest
+  following_nothing (Ok ys) = refl
+  following_nothing (Err fault) = refl
 
-  behind_one : (done : List Y) (y : Y) (rest : Result (List Y) TowerFault) → behind done (rest >>= (λ ys. Ok (y ∷ ys))) ≡ behind (done ++ y ∷ []) rest
-  behind_one done y (Ok ys) = ap Ok (sym (append_assoc done (y ∷ []) ys))
-  behind_one done y (Err fault) = refl
+  following_one : (done : List Y) (y : Y) (rest : Result (List Y) TowerFault) → following done (rest >>= (λ ys. Ok (y ∷ ys))) ≡ following (done ++ y ∷ []) rest
+  following_one done y (Ok ys) = ap Ok (sym (append_assoc done (y ∷ []) ys))
+  following_one done y (Err fault) = refl
 
   -- what was gathered of a view, and what it has left
   abbrev pub SoFar : VectorView → VectorView → List Y → Type 0
   SoFar first view done = (members : List ElementModel) → MembersLeft first members
-      → (left : List ElementModel) × MembersLeft view left × (each read members ≡ behind done (each read left))
+      → (left : List ElementModel) × MembersLeft view left × (each read members ≡ following done (each read left))
 
   pub so_far_begins : (view : VectorView) → SoFar view view []
-  so_far_begins view members h = (members, h, behind_nothing (each read members))
+  so_far_begins view members h = (members, h, following_nothing (each read members))
 
-  on_by : (first after : VectorView) (element : Element) (done : List Y) (y : Y) (members left : List ElementModel) → each read members ≡ behind done (each read left)
-      → NextMember (Some element) after left → read (piece_of element) ≡ Ok y → (l : List ElementModel) × MembersLeft after l × (each read members ≡ behind (done ++ y ∷ []) (each read l))
+  on_by : (first after : VectorView) (element : Element) (done : List Y) (y : Y) (members left : List ElementModel) → each read members ≡ following done (each read left)
+      → NextMember (Some element) after left → read (piece_of element) ≡ Ok y → (l : List ElementModel) × MembersLeft after l × (each read members ≡ following (done ++ y ∷ []) (each read l))
   on_by first after element done y members [] e n r = absurd n
   on_by first after element done y members (piece ∷ left) e n r =
       let is : read piece ≡ Ok y = subst (λ (p : ElementModel). read p ≡ Ok y) n.0 r in
-      (left, n.1, e ∙ rw is refl ∙ behind_one done y (each read left))
+      (left, n.1, e ∙ rw is refl ∙ following_one done y (each read left))
 
   pub so_far_on : (first view after : VectorView) (element : Element) (done : List Y) (y : Y) → SoFar first view done → Gives_next view (Some element) after
       → read (piece_of element) ≡ Ok y → SoFar first after (done ++ y ∷ [])
   so_far_on first view after element done y s n r members h =
       let k = s members h in on_by first after element done y members k.0 k.2 (n k.0 k.1) r
 
-  fails_by : (after : VectorView) (element : Element) (done : List Y) (fault : TowerFault) (members left : List ElementModel) → each read members ≡ behind done (each read left)
+  fails_by : (after : VectorView) (element : Element) (done : List Y) (fault : TowerFault) (members left : List ElementModel) → each read members ≡ following done (each read left)
       → NextMember (Some element) after left → read (piece_of element) ≡ Err fault → each read members ≡ Err fault
   fails_by after element done fault members [] e n r = absurd n
   fails_by after element done fault members (piece ∷ left) e n r =
@@ -63,7 +63,7 @@ module _ {Y : Type 0} (read : ElementModel → Result Y TowerFault) where
       → (members : List ElementModel) → MembersLeft first members → each read members ≡ Ok done
   so_far_ends first view after done s n members h =
       let k = s members h in
-      k.2 ∙ ap (λ (left : List ElementModel). behind done (each read left)) (n k.0 k.1) ∙ ap Ok (append-nil done)
+      k.2 ∙ ap (λ (left : List ElementModel). following done (each read left)) (n k.0 k.1) ∙ ap Ok (append-nil done)
 
 module _ {Form State : Type 0} (IsRead : ElementModel → Form → Type 0) (step : State → Form → Result State TowerFault) where
   -- steps for two lists, one after the other

@@ -16,9 +16,9 @@ deep zero room = room
 deep (suc depth) room = suc (deep depth room)
 
 -- the place after bytes
-abbrev pub behind : ℕ → List ℕ → ℕ
-behind place [] = place
-behind place (b ∷ bytes) = behind (suc place) bytes
+abbrev pub following : ℕ → List ℕ → ℕ
+following place [] = place
+following place (b ∷ bytes) = following (suc place) bytes
 
 -- an element without tags
 pub record Item : Type 0 where
@@ -31,7 +31,7 @@ piece_at place item = record { kind = item.kind; start = place; text = item.text
 -- the bytes are this element wherever they are, with so many levels nested in it
 abbrev pub Stands : ℕ → Item → Type 0
 Stands depth item = (room place : ℕ) (rest : List ℕ) → Ends is_run rest
-    → IsElementAt (deep depth room) item.kind (record { kind = item.kind; start = place }) place (item.text ++ rest) (behind place item.text) rest
+    → IsElementAt (deep depth room) item.kind (record { kind = item.kind; start = place }) place (item.text ++ rest) (following place item.text) rest
 
 -- ---- the classes of bytes
 
@@ -77,7 +77,7 @@ run_by : (b : ℕ) (bytes : List ℕ) (t : Bool) → is_run b ≡ t → cond t (
 run_by b bytes true e h = (e, h)
 run_by b bytes false e h = absurd cc
 
-run_on : (place : ℕ) (bytes rest : List ℕ) → all_run bytes ≡ true → Ends is_run rest → IsWholeRun place (bytes ++ rest) (behind place bytes) rest
+run_on : (place : ℕ) (bytes rest : List ℕ) → all_run bytes ≡ true → Ends is_run rest → IsWholeRun place (bytes ++ rest) (following place bytes) rest
 run_on place [] rest h e = ended e
 run_on place (b ∷ bytes) rest h e =
     let k = run_by b bytes (is_run b) refl h in more k.0 (run_on (suc place) bytes rest k.1 e)
@@ -96,46 +96,46 @@ abbrev pub spaced : List Item → List ℕ → List ℕ
 spaced [] rest = rest
 spaced (item ∷ items) rest = 32 ∷ (item.text ++ spaced items rest)
 
-abbrev pub spaced_behind : ℕ → List Item → ℕ
-spaced_behind place [] = place
-spaced_behind place (item ∷ items) = spaced_behind (behind (suc place) item.text) items
+abbrev pub spaced_after : ℕ → List Item → ℕ
+spaced_after place [] = place
+spaced_after place (item ∷ items) = spaced_after (following (suc place) item.text) items
 
 abbrev pub spaced_pieces : ℕ → List Item → List ElementModel
 spaced_pieces place [] = []
-spaced_pieces place (item ∷ items) = piece_at (suc place) item ∷ spaced_pieces (behind (suc place) item.text) items
+spaced_pieces place (item ∷ items) = piece_at (suc place) item ∷ spaced_pieces (following (suc place) item.text) items
 
 spaced_ends : (items : List Item) (rest : List ℕ) → Ends is_run rest → Ends is_run (spaced items rest)
 spaced_ends [] rest e = e
 spaced_ends (item ∷ items) rest e = space_ends
 
 on_spaced : (depth room place : ℕ) (items : List Item) (rest : List ℕ) → All_stand depth items → Ends is_run rest
-    → IsElements (deep depth room) place (spaced items rest) (spaced_pieces place items) (spaced_behind place items) rest
+    → IsElements (deep depth room) place (spaced items rest) (spaced_pieces place items) (spaced_after place items) rest
 on_spaced depth room place [] rest h e = none
 on_spaced depth room place (item ∷ items) rest h e =
     next {piece = piece_at (suc place) item} (skipped (white space_is_white) nothing) (h.0 room (suc place) (spaced items rest) (spaced_ends items rest e)) refl
-    (on_spaced depth room (behind (suc place) item.text) items rest h.1 e)
+    (on_spaced depth room (following (suc place) item.text) items rest h.1 e)
 
 -- elements, all but the first after a space
 abbrev pub inside : Item → List Item → List ℕ → List ℕ
 inside first items rest = first.text ++ spaced items rest
 
-abbrev pub inside_behind : ℕ → Item → List Item → ℕ
-inside_behind place first items = spaced_behind (behind place first.text) items
+abbrev pub inside_after : ℕ → Item → List Item → ℕ
+inside_after place first items = spaced_after (following place first.text) items
 
 abbrev pub inside_pieces : ℕ → Item → List Item → List ElementModel
-inside_pieces place first items = piece_at place first ∷ spaced_pieces (behind place first.text) items
+inside_pieces place first items = piece_at place first ∷ spaced_pieces (following place first.text) items
 
 pub on_inside : (depth room place : ℕ) (first : Item) (items : List Item) (rest : List ℕ) → All_stand depth (first ∷ items) → Ends is_run rest
-    → IsElements (deep depth room) place (inside first items rest) (inside_pieces place first items) (inside_behind place first items) rest
+    → IsElements (deep depth room) place (inside first items rest) (inside_pieces place first items) (inside_after place first items) rest
 on_inside depth room place first items rest h e =
     next {piece = piece_at place first} nothing (h.0 room place (spaced items rest) (spaced_ends items rest e)) refl
-    (on_spaced depth room (behind place first.text) items rest h.1 e)
+    (on_spaced depth room (following place first.text) items rest h.1 e)
 
 -- ---- brackets
 
 pub vector : (depth : ℕ) (first : Item) (items : List Item) → All_stand depth (first ∷ items) → (room place : ℕ) (rest : List ℕ)
     → IsElementAt (suc (deep depth room)) kinds.Vector (record { kind = kinds.Vector; start = place }) place (91 ∷ inside first items (93 ∷ rest))
-    (suc (inside_behind (suc place) first items)) rest
+    (suc (inside_after (suc place) first items)) rest
 vector depth first items h room place rest =
     bracketed {opener = openers.Vector} {bracket = Square} (opening {bracket = Square} square_opens) (on_inside depth room (suc place) first items (93 ∷ rest) h square_ends) nothing
     (close square_closes) refl refl
@@ -143,7 +143,7 @@ vector depth first items h room place rest =
 pub map_of : (depth : ℕ) (first : Item) (items : List Item) → All_stand depth (first ∷ items) → (room place : ℕ) (rest : List ℕ)
     → is_odd (inside_pieces (suc place) first items) ≡ false
     → IsElementAt (suc (deep depth room)) kinds.Map (record { kind = kinds.Map; start = place }) place (123 ∷ inside first items (125 ∷ rest))
-    (suc (inside_behind (suc place) first items)) rest
+    (suc (inside_after (suc place) first items)) rest
 map_of depth first items h room place rest even =
     bracketed {opener = openers.Map} {bracket = Curly} (opening {bracket = Curly} curly_opens) (on_inside depth room (suc place) first items (125 ∷ rest) h curly_ends) nothing
     (close curly_closes) refl even
@@ -161,7 +161,7 @@ members_of piece bytes members ends kind text elements = record {
     ends = ends;
     beyond = 93 ∷ [];
     begins = ends;
-    behind = 93 ∷ [];
+    following = 93 ∷ [];
     after = suc ends;
     bracket = Square;
     elements = elements;
@@ -182,7 +182,7 @@ pairs_of piece bytes pairs ends kind text elements = record {
     ends = ends;
     beyond = 125 ∷ [];
     begins = ends;
-    behind = 125 ∷ [];
+    following = 125 ∷ [];
     after = suc ends;
     bracket = Curly;
     elements = elements;

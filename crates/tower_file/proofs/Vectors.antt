@@ -24,17 +24,6 @@ needed_once field Missing x e = absurd cc
 needed_once field (One y) x e = cc
 needed_once field Many x e = absurd cc
 
--- what is needed and refused is refused too when it is read further
-pub not_needed : {Form : Type 0} (IsRead : ElementModel → Form → Type 0) (field : TowerField) (fault : TowerFault) (given : Given ElementModel) (read : Given (Option (List Form)))
-    → needed field given ≡ Err fault → IsGiven (IsVectorOf IsRead) given read → vector_in field read ≡ Err fault
-not_needed IsRead field fault Missing Missing e h = cc
-not_needed IsRead field fault Missing (One x) e h = absurd h
-not_needed IsRead field fault Missing Many e h = absurd h
-not_needed IsRead field fault (One piece) read e h = absurd cc
-not_needed IsRead field fault Many Missing e h = absurd h
-not_needed IsRead field fault Many (One x) e h = absurd h
-not_needed IsRead field fault Many Many e h = cc
-
 pub vector_shows : {Form : Type 0} (IsRead : ElementModel → Form → Type 0) (field : TowerField) (piece : ElementModel) (view : VectorView) (given : Given ElementModel) (read : Given (Option (List Form)))
     → needed field given ≡ Ok piece → piece.core.kind ≡ Vector → ((members : List ElementModel) → HasMembers piece members ↔ MembersLeft view members)
     → IsGiven (IsVectorOf IsRead) given read → (forms : List Form) × (vector_in field read ≡ Ok forms) × FormsLeft IsRead view forms

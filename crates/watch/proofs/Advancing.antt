@@ -13,35 +13,35 @@ use Rattle.shards.specs.declared.entry.VerdictChange.{VerdictChange}
 use Rattle.watch.specs.declared.settling.Advance.{Advance}
 use Rattle.watch.specs.declared.settling.Advance.TheVariants.{Took}
 use Rattle.watch.specs.declared.settling.Held.{Held}
-use Rattle.watch.specs.declared.settling.Progress.{Progress}
+use Rattle.watch.specs.declared.settling.FeederProgress.{FeederProgress}
 use Rattle.records.specs.Run.{at_most_u64}
 use Rattle.watch.specs.declared.run.Terms.{Terms}
 use Rattle.watch.specs.Due.{AreDueFirst, AreHeldFrom, advanced, advanced_at, has_due, held_notice, is_due, is_of_another, until_of}
 use Rattle.watch.specs.Settling.{says_fails}
 use Rattle.watch.proofs.Members.{there}
 
-pub set_advanced : (progress : List Progress) (at : ℕ) (by : Advance) (d one : Progress) → at < length progress → one ≡ advanced (slice_index_or progress at d) by → slice_set progress at one ≡ advanced_at progress at by
+pub set_advanced : (progress : List FeederProgress) (at : ℕ) (by : Advance) (d one : FeederProgress) → at < length progress → one ≡ advanced (slice_index_or progress at d) by → slice_set progress at one ≡ advanced_at progress at by
 set_advanced [] at by d one within is = absurd (omega arith)
-set_advanced (first ∷ progress) zero by d one within is = ap (λ (p : Progress). p ∷ progress) is
-set_advanced (first ∷ progress) (suc at) by d one within is = ap (λ (l : List Progress). first ∷ l) (set_advanced progress at by d one (omega arith) is)
+set_advanced (first ∷ progress) zero by d one within is = ap (λ (p : FeederProgress). p ∷ progress) is
+set_advanced (first ∷ progress) (suc at) by d one within is = ap (λ (l : List FeederProgress). first ∷ l) (set_advanced progress at by d one (omega arith) is)
 
 -- where there is no feeder of this number all stays as it is
-pub none_advanced : (progress : List Progress) (at : ℕ) (by : Advance) → length progress ≤ at → progress ≡ advanced_at progress at by
+pub none_advanced : (progress : List FeederProgress) (at : ℕ) (by : Advance) → length progress ≤ at → progress ≡ advanced_at progress at by
 none_advanced [] at by past = refl
 none_advanced (first ∷ progress) zero by past = absurd (omega arith)
-none_advanced (first ∷ progress) (suc at) by past = ap (λ (l : List Progress). first ∷ l) (none_advanced progress at by (omega arith))
+none_advanced (first ∷ progress) (suc at) by past = ap (λ (l : List FeederProgress). first ∷ l) (none_advanced progress at by (omega arith))
 
 one_more : (taken settle : ℕ) → at_most_u64 (at_most_u64 (taken + settle) + 1) ≡ at_most_u64 (at_most_u64 (taken + 1) + settle)
 one_more taken settle = omega arith
 
-pub set_until : (progress : List Progress) (settle at d own : ℕ) → at < length progress → own ≡ at_most_u64 (slice_index_or (map (λ (one : Progress). at_most_u64 (one.taken + settle)) progress) at d + 1)
-    → slice_set (map (λ (one : Progress). at_most_u64 (one.taken + settle)) progress) at own ≡ until_of progress settle at
+pub set_until : (progress : List FeederProgress) (settle at d own : ℕ) → at < length progress → own ≡ at_most_u64 (slice_index_or (map (λ (one : FeederProgress). at_most_u64 (one.taken + settle)) progress) at d + 1)
+    → slice_set (map (λ (one : FeederProgress). at_most_u64 (one.taken + settle)) progress) at own ≡ until_of progress settle at
 set_until [] settle at d own within is = absurd (omega arith)
-set_until (first ∷ progress) settle zero d own within is = ap (λ (n : ℕ). n ∷ map (λ (one : Progress). at_most_u64 (one.taken + settle)) progress) (is ∙ one_more first.taken settle)
+set_until (first ∷ progress) settle zero d own within is = ap (λ (n : ℕ). n ∷ map (λ (one : FeederProgress). at_most_u64 (one.taken + settle)) progress) (is ∙ one_more first.taken settle)
 set_until (first ∷ progress) settle (suc at) d own within is = ap (λ (l : List ℕ). at_most_u64 (first.taken + settle) ∷ l) (set_until progress settle at d own (omega arith) is)
 
-pub none_until : (progress : List Progress) (settle at : ℕ) → length progress ≤ at → map (λ (one : Progress). at_most_u64 (one.taken + settle)) progress ≡ until_of progress settle at
-none_until progress settle at past = ap (map (λ (one : Progress). at_most_u64 (one.taken + settle))) (none_advanced progress at Took past)
+pub none_until : (progress : List FeederProgress) (settle at : ℕ) → length progress ≤ at → map (λ (one : FeederProgress). at_most_u64 (one.taken + settle)) progress ≡ until_of progress settle at
+none_until progress settle at past = ap (map (λ (one : FeederProgress). at_most_u64 (one.taken + settle))) (none_advanced progress at Took past)
 
 taken_out_of : (test : Held → Bool) (front back : List Held) (one : Held) → test one ≡ false → filter test (front ++ one ∷ back) ≡ filter test (front ++ back)
 taken_out_of test front back one not =
@@ -78,7 +78,7 @@ pub left_all : (notice : Notice) (before now : List Held) → now ≡ before →
 left_all notice before now same = rw same (All-contains_itself before, refl, inl refl)
 
 -- nothing more is held back, where the notice is no failure or none is to be held back
-pub none_new : (progress : List Progress) (settle : ℕ) (notice : Notice) (before now : List Held) → AreLeft notice before now → (settle ≢ 0 → says_fails notice ≡ true → ⊥) → AreHeldFrom progress settle notice before now
+pub none_new : (progress : List FeederProgress) (settle : ℕ) (notice : Notice) (before now : List Held) → AreLeft notice before now → (settle ≢ 0 → says_fails notice ≡ true → ⊥) → AreHeldFrom progress settle notice before now
 none_new progress settle notice before now left none = record {
   left = now;
   new = [];
@@ -91,7 +91,7 @@ none_new progress settle notice before now left none = record {
 }
 
 -- one more of this register is held back
-pub one_new : (progress : List Progress) (settle feeder place : ℕ) (change : VerdictChange) (before left now : List Held) (one : Held) → AreLeft (Changed feeder place change) before left → now ≡ left ++ one ∷ []
+pub one_new : (progress : List FeederProgress) (settle feeder place : ℕ) (change : VerdictChange) (before left now : List Held) (one : Held) → AreLeft (Changed feeder place change) before left → now ≡ left ++ one ∷ []
     → held_notice one ≡ Changed feeder place change → one.until.items ≡ until_of progress settle one.feeder → AreHeldFrom progress settle (Changed feeder place change) before now
 one_new progress settle feeder place change before left now one is now_is notice until = record {
   left = left;
@@ -118,7 +118,7 @@ no_failure notice (inr (inl is)) fails = let no : says_fails (Broke is.0 is.1) �
 no_failure notice (inr (inr is)) fails = let no : says_fails (Ended is.0 is.1) ≡ true = subst (λ (n : Notice). says_fails n ≡ true) is.2 fails in absurd cc
 
 -- what was held back first was due
-module _ (progress : List Progress) where
+module _ (progress : List FeederProgress) where
   pub due_none : (before now : List Held) → now ≡ before → AreDueFirst progress before now
   due_none before now same = ([], sym same, All-nil _)
 
@@ -138,9 +138,9 @@ first_removed [] left some is = absurd (omega arith)
 first_removed (one ∷ held) left some is = inr (one, ap (λ (l : List Held). one ∷ l) (sym is))
 
 -- what is held back by what a teller is seen as
-pub held_by : (progress own : List Progress) (terms here : Terms) (notice : Notice) (before held now : List Held) → own ≡ progress → here ≡ terms → held ≡ before → AreHeldFrom own here.settle notice held now
+pub held_by : (progress own : List FeederProgress) (terms here : Terms) (notice : Notice) (before held now : List Held) → own ≡ progress → here ≡ terms → held ≡ before → AreHeldFrom own here.settle notice held now
     → AreHeldFrom progress terms.settle notice before now
 held_by progress own terms here notice before held now p t h is = rw (sym p, sym t, sym h) is
 
-pub due_by : (progress own : List Progress) (before now : List Held) → own ≡ progress → AreDueFirst own before now → AreDueFirst progress before now
+pub due_by : (progress own : List FeederProgress) (before now : List Held) → own ≡ progress → AreDueFirst own before now → AreDueFirst progress before now
 due_by progress own before now p is = rw (sym p) is

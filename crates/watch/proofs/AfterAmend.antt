@@ -17,7 +17,7 @@ use Rattle.intervals.proofs.Ids.{Decides-same_id_is}
 use Rattle.intervals.proofs.Members.{all_from}
 use Rattle.watch.specs.Coming.{EndsLast}
 use Rattle.watch.proofs.Members.{mapped, from_map}
-use Rattle.watch.proofs.JudgedOps.{is_judged, judged_stands, not_unfinished, unfinished_write, filtered_map}
+use Rattle.watch.proofs.JudgedOps.{is_judged, judged_present, not_unfinished, unfinished_write, filtered_map}
 use Rattle.watch.proofs.Orders.{IsOrdered, IsEnded, MayGo, ordered_without, ordered_before}
 use Rattle.watch.proofs.RightReads.{StayUnder}
 
@@ -153,7 +153,7 @@ module _ (ops : List Op) (id : OpId) (change : Change) (ends : EndsLast ops id c
   pub ordered_amend : (initial : Value) → IsOrdered initial (judged (map (amended id change) ops)) → IsOrdered initial (judged ops)
   ordered_amend initial h =
       ordered_before after initial (judged ops)
-      (all_from (IsEnded after) (judged ops) (λ x k. let (at, t) = judged_stands ops x k in ended x t (each x at)))
+      (all_from (IsEnded after) (judged ops) (λ x k. let (at, t) = judged_present ops x k in ended x t (each x at)))
       (subst (IsOrdered initial) is_kept (ordered_without keep initial (judged (map after ops)) may_go h))
 
   pub no_write_amend : (value : Value) → HasNoWrite (map (amended id change) ops) value → HasNoWrite ops value

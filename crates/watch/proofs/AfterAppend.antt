@@ -17,7 +17,7 @@ use Rattle.intervals.proofs.Accepted.{edit_accepted, moments_accepted, shares_no
 use Rattle.intervals.proofs.Ids.{none_of, not_taken, same_id-refl}
 use Rattle.intervals.proofs.Members.{all_from, same_moment}
 use Rattle.watch.specs.Coming.{IsLatest}
-use Rattle.watch.proofs.JudgedOps.{is_judged, judged_cases, judged_stands, end_of, unfinished_write, filtered_push}
+use Rattle.watch.proofs.JudgedOps.{is_judged, judged_cases, judged_present, end_of, unfinished_write, filtered_push}
 use Rattle.watch.proofs.Orders.{IsOrdered, MayGo, ordered_without}
 use Rattle.watch.proofs.RightReads.{StayUnder}
 
@@ -77,13 +77,13 @@ module _ (claim : ClaimModel) (ops : List Op) (op : Op) (accepted : reply_to cla
   is_left = filtered_push is_other is_judged ops op others (rw (same_id-refl op.id) refl)
 
   may_go : All (MayGo is_other (judged (ops ++ op ∷ []))) (judged (ops ++ op ∷ []))
-  may_go = all_from (MayGo is_other after) after (λ a h out. inr (all_from (λ b. IsWrite b ⊎ Precedes b a) after (λ b k. subst (λ (o : Op). IsWrite b ⊎ Precedes b o) (is_new a out (stands a h)) (each b (stands b k) (judged_stands (ops ++ op ∷ []) b k).1))))
+  may_go = all_from (MayGo is_other after) after (λ a h out. inr (all_from (λ b. IsWrite b ⊎ Precedes b a) after (λ b k. subst (λ (o : Op). IsWrite b ⊎ Precedes b o) (is_new a out (present a h)) (each b (present b k) (judged_present (ops ++ op ∷ []) b k).1))))
     where
       after : List Op
       after = judged (ops ++ op ∷ [])
 
-      stands : (a : Op) → Contains after a → Contains ops a ⊎ (op ≡ a)
-      stands a h = Contains-push_cases ops op a (judged_stands (ops ++ op ∷ []) a h).0
+      present : (a : Op) → Contains after a → Contains ops a ⊎ (op ≡ a)
+      present a h = Contains-push_cases ops op a (judged_present (ops ++ op ∷ []) a h).0
 
       is_new : (a : Op) → is_other a ≡ false → Contains ops a ⊎ (op ≡ a) → op ≡ a
       is_new a out (inl k) = absurd (let t = All-contains (λ a. is_other a ≡ true) ops a others k in cc)

@@ -15,8 +15,8 @@ use Rattle.intervals.proofs.Agreement.{Decides-IsTrue, Decides-list_any, Decides
 use Rattle.intervals.proofs.Ids.{Decides-same_id_is}
 use Rattle.intervals.proofs.Members.{all_from}
 use Rattle.watch.specs.Coming.{HasNoEnd}
-use Rattle.watch.proofs.Members.{kept, kept_stands}
-use Rattle.watch.proofs.JudgedOps.{is_judged, judged_cases, judged_stands, not_unfinished, unfinished_write, filters_commute}
+use Rattle.watch.proofs.Members.{kept, kept_present}
+use Rattle.watch.proofs.JudgedOps.{is_judged, judged_cases, judged_present, not_unfinished, unfinished_write, filters_commute}
 use Rattle.watch.proofs.Orders.{IsOrdered, ordered_with, ordered_from_another}
 use Rattle.watch.proofs.RightReads.{StayUnder}
 use Rattle.watch.proofs.Unused.{unused, no_write_unused}
@@ -64,15 +64,15 @@ module _ (ops : List Op) (id : OpId) (unfinished : HasNoEnd ops id) where
   stay_under_withdraw r h read = record {
     stays = stays r h (not_unfinished r read);
     came = λ v write before k. stays v k (λ none. subst (λ (end : Option Moment). EndsBefore end r.begin) none before);
-    stood = λ v write before k. (kept_stands keep ops v k).0;
-    over = λ v write o k. (v, (kept_stands keep ops v k).0, write, o, refl);
+    stood = λ v write before k. (kept_present keep ops v k).0;
+    over = λ v write o k. (v, (kept_present keep ops v k).0, write, o, refl);
   }
 
   pub ordered_withdraw : (initial : Value) → IsOrdered initial (judged (filter (λ op. not (same_id op.id id)) ops)) → IsOrdered initial (judged ops)
   ordered_withdraw initial h =
       ordered_with keep initial (judged ops)
       (all_from (λ a. keep a ≡ false → IsWrite a × (a.end ≡ None)) (judged ops)
-      (λ a k out. let (at, t) = judged_stands ops a k in let none = no_end a at out in (unfinished_write a t none, none)))
+      (λ a k out. let (at, t) = judged_present ops a k in let none = no_end a at out in (unfinished_write a t none, none)))
       (subst (IsOrdered initial) (filters_commute is_judged keep ops) h)
 
   -- where no finished read returned the value of a write that is taken out, another initial value does
@@ -102,6 +102,6 @@ module _ (ops : List Op) (id : OpId) (unfinished : HasNoEnd ops id) where
         no_write_unused ops,
         ordered_from_another value (unused ops) (judged ops)
             (all_from (λ a. IsWrite a ⊎ (value_of a.act ≢ value)) (judged ops)
-            (λ a k. let (stands, t) = judged_stands ops a k in not_returned w at write same a stands (judged_cases a t)))
+            (λ a k. let (present, t) = judged_present ops a k in not_returned w at write same a present (judged_cases a t)))
             (ordered_withdraw value h),
       )

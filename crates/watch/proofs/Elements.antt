@@ -9,7 +9,7 @@ use Rattle.intervals.specs.Kind.{Holds}
 use Rattle.intervals.specs.Refusal.{standing}
 use Rattle.jepsen_form.specs.declared.fault.FormFault.{FormFault}
 use Rattle.jepsen_form.specs.declared.item.Item.{Item}
-use Rattle.logs.specs.Steps.{StepResult, edits_among, placed, step_behind, steps_behind, steps_of}
+use Rattle.logs.specs.Steps.{StepResult, edits_among, placed, step_after, steps_after, steps_of}
 use Rattle.watch.specs.Coming.{ComeInOrder, LeaveReadValues}
 use Rattle.watch.specs.Trace.{EditsNothing, IsNoFail, IsPlainTrace}
 use Rattle.watch.proofs.Placing.{edit_list, edit_lists, plain_placed, edits_are, among_lists}
@@ -21,12 +21,12 @@ lists_in_order : (claim : ClaimModel) (feeder : ℕ) (register : RegId) (items :
 lists_in_order claim feeder register items trace =
     subst (ComeInOrder (unedited claim)) (sym (edits_are feeder register items)) (plain_in_order feeder register claim (placed items) (plain_placed items trace))
 
-steps_append : (feeder : ℕ) (before items more : List (Result Item FormFault)) → steps_behind feeder before (items ++ more) ≡ steps_behind feeder before items ++ steps_behind feeder (before ++ items) more
-steps_append feeder before [] more = ap (λ (b : List (Result Item FormFault)). steps_behind feeder b more) (sym (append-nil before))
+steps_append : (feeder : ℕ) (before items more : List (Result Item FormFault)) → steps_after feeder before (items ++ more) ≡ steps_after feeder before items ++ steps_after feeder (before ++ items) more
+steps_append feeder before [] more = ap (λ (b : List (Result Item FormFault)). steps_after feeder b more) (sym (append-nil before))
 steps_append feeder before (one ∷ items) more =
-    ap (λ (rest : List StepResult). step_behind feeder before one ∷ rest)
+    ap (λ (rest : List StepResult). step_after feeder before one ∷ rest)
     (steps_append feeder (before ++ one ∷ []) items more
-    ∙ ap (λ (b : List (Result Item FormFault)). steps_behind feeder (before ++ one ∷ []) items ++ steps_behind feeder b more) (append_assoc before (one ∷ []) items))
+    ∙ ap (λ (b : List (Result Item FormFault)). steps_after feeder (before ++ one ∷ []) items ++ steps_after feeder b more) (append_assoc before (one ∷ []) items))
 
 among_append : (register : RegId) (steps more : List StepResult) → edit_lists register (steps ++ more) ≡ edit_lists register steps ++ edit_lists register more
 among_append register [] more = refl
@@ -43,10 +43,10 @@ module _ (claim : ClaimModel) (feeder : ℕ) (register : RegId) (items more : Li
   early = edit_lists register (steps_of feeder items)
 
   abbrev late : List AnEdit
-  late = edit_lists register (steps_behind feeder items more)
+  late = edit_lists register (steps_after feeder items more)
 
   all_is : edit_lists register (steps_of feeder (items ++ more)) ≡ early ++ late
-  all_is = ap (edit_lists register) (steps_append feeder [] items more) ∙ among_append register (steps_of feeder items) (steps_behind feeder items more)
+  all_is = ap (edit_lists register) (steps_append feeder [] items more) ∙ among_append register (steps_of feeder items) (steps_after feeder items more)
 
   late_in_order : ComeInOrder (standing (unedited claim) early) late
   late_in_order = come_rest (unedited claim) early late (subst (ComeInOrder (unedited claim)) all_is (lists_in_order claim feeder register (items ++ more) trace))
@@ -57,7 +57,7 @@ module _ (claim : ClaimModel) (feeder : ℕ) (register : RegId) (items more : Li
   lists_fail_known : claim.known ≡ true → FailsAfter (edit_lists register (steps_of feeder items)) → FailsAfter (edit_lists register (steps_of feeder (items ++ more)))
   lists_fail_known t fails = subst FailsAfter (sym all_is) (fails_again_known claim early late t late_in_order fails)
 
-  lists_fail_unread : LeaveReadValues (standing (unedited claim) (edit_lists register (steps_of feeder items))) (edit_lists register (steps_behind feeder items more))
+  lists_fail_unread : LeaveReadValues (standing (unedited claim) (edit_lists register (steps_of feeder items))) (edit_lists register (steps_after feeder items more))
       → FailsAfter (edit_lists register (steps_of feeder items)) → FailsAfter (edit_lists register (steps_of feeder (items ++ more)))
   lists_fail_unread leave fails = subst FailsAfter (sym all_is) (fails_again_unread claim early late late_in_order leave fails)
 
@@ -90,11 +90,11 @@ module _ (claim : ClaimModel) (feeder register : ℕ) (items more : List (Result
   trace_fails_unfailed n h =
       fail_among (steps_of feeder (items ++ more)) (lists_fail_unfailed claim feeder (record { 0 = register }) items more trace n (fail_lists (steps_of feeder items) h))
 
-  pub trace_fails_unread : LeaveReadValues (standing (unedited claim) (edits_among register (steps_of feeder items))) (edits_among register (steps_behind feeder items more))
+  pub trace_fails_unread : LeaveReadValues (standing (unedited claim) (edits_among register (steps_of feeder items))) (edits_among register (steps_after feeder items more))
       → FailAfter (steps_of feeder items) → FailAfter (steps_of feeder (items ++ more))
   trace_fails_unread leave h =
       fail_among (steps_of feeder (items ++ more))
       (lists_fail_unread claim feeder (record { 0 = register }) items more trace
-      (subst (λ (list : List AnEdit). LeaveReadValues (standing (unedited claim) list) (edit_lists (record { 0 = register }) (steps_behind feeder items more))) (among_lists register (steps_of feeder items))
-      (subst (LeaveReadValues (standing (unedited claim) (edits_among register (steps_of feeder items)))) (among_lists register (steps_behind feeder items more)) leave))
+      (subst (λ (list : List AnEdit). LeaveReadValues (standing (unedited claim) list) (edit_lists (record { 0 = register }) (steps_after feeder items more))) (among_lists register (steps_of feeder items))
+      (subst (LeaveReadValues (standing (unedited claim) (edits_among register (steps_of feeder items)))) (among_lists register (steps_after feeder items more)) leave))
       (fail_lists (steps_of feeder items) h))

@@ -5,7 +5,7 @@ use Rattle.std.proofs.lemmas.List.Elements.{All-head, All-tail}
 use Rattle.intervals.specs.declared.operation.Op.{Op}
 use Rattle.intervals.specs.declared.operation.Moment.{Moment}
 use Rattle.intervals.specs.Operation.{IsWrite, IsJudgedRead, is_write, judged}
-use Rattle.watch.proofs.Members.{kept_stands}
+use Rattle.watch.proofs.Members.{kept_present}
 
 -- whether the operation is one that a verdict is about: a write, or a read that has an end
 abbrev pub is_judged : Op → Bool
@@ -39,8 +39,8 @@ unfinished_write op t none = by_cases (judged_cases op t)
     by_cases (inl w) = w
     by_cases (inr r) = absurd (not_unfinished op r none)
 
-pub judged_stands : (ops : List Op) (a : Op) → Contains (judged ops) a → Contains ops a × (is_judged a ≡ true)
-judged_stands ops a h = kept_stands is_judged ops a h
+pub judged_present : (ops : List Op) (a : Op) → Contains (judged ops) a → Contains ops a × (is_judged a ≡ true)
+judged_present ops a h = kept_present is_judged ops a h
 
 module _ {X : Type 0} where
   -- two filters in either order keep the same

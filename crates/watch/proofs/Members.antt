@@ -33,9 +33,9 @@ module _ {X : Type 0} where
         by_cases (inr h) true s rest = there a (filter test xs) x (rest h)
         by_cases (inr h) false s rest = rest h
 
-    pub kept_stands : (xs : List X) (x : X) → Contains (filter test xs) x → Contains xs x × (test x ≡ true)
-    kept_stands [] x h = absurd (in_none x h)
-    kept_stands (a ∷ xs) x h = by_cases (test a) refl h (kept_stands xs x)
+    pub kept_present : (xs : List X) (x : X) → Contains (filter test xs) x → Contains xs x × (test x ≡ true)
+    kept_present [] x h = absurd (in_none x h)
+    kept_present (a ∷ xs) x h = by_cases (test a) refl h (kept_present xs x)
       where
         by_place : test a ≡ true → (Contains (filter test xs) x → Contains xs x × (test x ≡ true)) → (a ≡ x) ⊎ Contains (filter test xs) x → Contains (a ∷ xs) x × (test x ≡ true)
         by_place s rest (inl e) = ((0, omega arith, e), (cc))

@@ -152,7 +152,7 @@ AreAlike = (claim : ClaimModel) (edits others : List Edit) → map bare_edit edi
 abbrev MayGoOn : ClaimModel → List Edit → Type 0
 MayGoOn claim all = (first mid rest : List Edit) → all ≡ first ++ (mid ++ rest) → ((standing (unedited claim) first).claim.known ≡ true) ⊎ LeaveReadValues (standing (unedited claim) first) mid
 
-module _ (stands : Stands) (fronts : FrontsAreLegal) (alike : AreAlike) (plan : Plan) (at register : ℕ) (claim : ClaimModel) (known : slice_get plan.claims register ≡ Some claim) where
+module _ (present : Stands) (fronts : FrontsAreLegal) (alike : AreAlike) (plan : Plan) (at register : ℕ) (claim : ClaimModel) (known : slice_get plan.claims register ≡ Some claim) where
   abbrev HoldsUnder : List Edit → Type 0
   HoldsUnder edits = Holds (standing (unedited claim) edits).claim (standing (unedited claim) edits).ops
 
@@ -160,10 +160,10 @@ module _ (stands : Stands) (fronts : FrontsAreLegal) (alike : AreAlike) (plan : 
   HoldsWith journal found = IsSomeAnd found (λ claim. Holds (left_by journal register claim).claim (left_by journal register claim).ops)
 
   to_edits : (journal : List Entry) → IsLegalJournal plan at journal → HoldsAfter plan register journal → HoldsUnder (edits_of register journal)
-  to_edits journal legal holds = subst (λ (held : RegisterState). Holds held.claim held.ops) (stands plan at register claim journal legal known) (subst (HoldsWith journal) known holds)
+  to_edits journal legal holds = subst (λ (held : RegisterState). Holds held.claim held.ops) (present plan at register claim journal legal known) (subst (HoldsWith journal) known holds)
 
   of_edits : (journal : List Entry) → IsLegalJournal plan at journal → HoldsUnder (edits_of register journal) → HoldsAfter plan register journal
-  of_edits journal legal holds = subst (HoldsWith journal) (sym known) (subst (λ (held : RegisterState). Holds held.claim held.ops) (sym (stands plan at register claim journal legal known)) holds)
+  of_edits journal legal holds = subst (HoldsWith journal) (sym known) (subst (λ (held : RegisterState). Holds held.claim held.ops) (sym (present plan at register claim journal legal known)) holds)
 
   edits_append : (front rest : List Entry) → edits_of register (front ++ rest) ≡ edits_of register front ++ edits_of register rest
   edits_append front rest = ap (map (λ (e : Entry). e.edit)) (filter-append (is_of register) front rest) ∙ map-append (λ (e : Entry). e.edit) (filter (is_of register) front) (filter (is_of register) rest)
@@ -196,7 +196,7 @@ module _ (stands : Stands) (fronts : FrontsAreLegal) (alike : AreAlike) (plan : 
   may_unread : (all : List Edit) → AllByRecursion WithdrawsNothing all → MayGoOn claim all
   may_unread all none first mid rest parts = inr (leave_all (standing (unedited claim) first) mid (part_of first mid rest (subst (AllByRecursion WithdrawsNothing) parts none)))
 
-module _ (stands : Stands) (fronts : FrontsAreLegal) (alike : AreAlike) (tower : TowerModel) (chosen : MomentField) (shards register : ℕ) (claim : ClaimModel) (known : slice_get (claims_of tower) register ≡ Some claim) where
+module _ (present : Stands) (fronts : FrontsAreLegal) (alike : AreAlike) (tower : TowerModel) (chosen : MomentField) (shards register : ℕ) (claim : ClaimModel) (known : slice_get (claims_of tower) register ≡ Some claim) where
   -- of a run of one plain trace the register's first change to `fails` is the last one
   run_final : (traces : List (List ℕ)) (closed : List ClosedShard) (log : Log) → IsRun tower chosen shards traces closed (log ∷ []) → 0 < shards → All (IsPlainText tower chosen log.broken) traces
       → (claim.known ≡ true) ⊎ All (HasNoFail tower chosen log.broken) traces → FailsLast change_fails (changes_on register (changes_of closed (register % shards)))
@@ -221,12 +221,12 @@ module _ (stands : Stands) (fronts : FrontsAreLegal) (alike : AreAlike) (tower :
       let order : ComeInOrder (unedited claim) edits = elements_in_order claim 0 register traced.items is_plain in
       let may : MayGoOn claim edits = by_either traced.items is_plain traced.are either in
       (changes_final plan register journal (changes_of closed at) (run.finished.changes at (omega (arith, many, some)))
-      (never_heals stands fronts alike plan at register claim known journal edits settled.of_shard.legal same order may)).0
+      (never_heals present fronts alike plan at register claim known journal edits settled.of_shard.legal same order may)).0
     where
       by_either : (items : List (Result Item FormFault)) → IsPlainTrace items → AreItemsOfTrace tower chosen trace log.broken items → (claim.known ≡ true) ⊎ All (HasNoFail tower chosen log.broken) (trace ∷ []) → MayGoOn claim (edits_among register (steps_of 0 items))
-      by_either items plain are (inl is) = may_known stands fronts alike (plan_of_run tower shards (trace ∷ [])) (register % shards) register claim known is (edits_among register (steps_of 0 items))
+      by_either items plain are (inl is) = may_known present fronts alike (plan_of_run tower shards (trace ∷ [])) (register % shards) register claim known is (edits_among register (steps_of 0 items))
       by_either items plain are (inr none) =
-          may_unread stands fronts alike (plan_of_run tower shards (trace ∷ [])) (register % shards) register claim known (edits_among register (steps_of 0 items))
+          may_unread present fronts alike (plan_of_run tower shards (trace ∷ [])) (register % shards) register claim known (edits_among register (steps_of 0 items))
           (subst (AllByRecursion WithdrawsNothing) (sym (among_lists register (steps_of 0 items)))
           (withdraw_nothing 0 (record { 0 = register }) [] items plain.unedited (All-head (HasNoFail tower chosen log.broken) trace [] none items are)))
 
@@ -255,10 +255,10 @@ pub first_failure_is_final : Stands → FrontsAreLegal → AreAlike → (tower :
     → (watched : IsWatched tower terms left closed (log ∷ []) stopped old new) → 0 < terms.shards → All (IsPlainText tower terms.field log.broken) watched.traces
     → (register : ℕ) (claim : ClaimModel) → slice_get (claims_of tower) register ≡ Some claim → (claim.known ≡ true) ⊎ All (HasNoFail tower terms.field log.broken) watched.traces
     → FailsLast change_fails (changes_on register (changes_in terms.shards (register % terms.shards) watched.notices))
-first_failure_is_final stands fronts alike tower terms left closed log stopped old new watched some plain register claim known either =
+first_failure_is_final present fronts alike tower terms left closed log stopped old new watched some plain register claim known either =
     let n = terms.shards in
-    let run = run_final stands fronts alike tower terms.field n register claim known watched.traces closed log watched.run some plain either in
-    let told = told_final stands fronts alike tower terms.field n register claim known closed stopped watched.told run (watched.are_told (register % n) (omega (arith, some))) in
+    let run = run_final present fronts alike tower terms.field n register claim known watched.traces closed log watched.run some plain either in
+    let told = told_final present fronts alike tower terms.field n register claim known closed stopped watched.told run (watched.are_told (register % n) (omega (arith, some))) in
     subst (FailsLast change_fails) (sym (on_said n register watched.notices))
-    (written_final stands fronts alike tower terms.field n register claim known stopped (notices_of register watched.told) (notices_of register watched.notices) (are_changes register watched.told)
+    (written_final present fronts alike tower terms.field n register claim known stopped (notices_of register watched.told) (notices_of register watched.notices) (are_changes register watched.told)
     (subst (FailsLast change_fails) (on_said n register watched.told) told) (watched.settled.by_register register))

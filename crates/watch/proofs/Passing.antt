@@ -60,35 +60,6 @@ written_or_held_on settle told held written new passed left is moves = record {
       (is.by_register register) (moves.by_register register (is.by_register register).held_back));
 }
 
-in_turn : (notice : Notice) (held : List Notice) (b : Bool) → (b ≡ true → held ≡ []) → held ++ cond b (notice ∷ []) [] ≡ cond b (notice ∷ []) [] ++ held
-in_turn notice held true none = let empty = none refl in rw empty refl
-in_turn notice held false none = append-nil held
-
--- a notice of no register of which a change is held back is written
-pub passes_now : (settle : ℕ) (held : List Notice) (notice : Notice) → ((register : ℕ) → is_change_of register notice ≡ true → notices_of register held ≡ []) → ArePassedOn settle held (notice ∷ []) (notice ∷ []) held
-passes_now settle held notice none = record {
-  at_once = λ zero empty. (refl, empty);
-  others = refl;
-  by_register = λ register back. (back, inl (in_turn notice (notices_of register held) (is_change_of register notice) (none register)));
-}
-
-held_one : (notice : Notice) (held : List Notice) (b : Bool) → says_fails notice ≡ true → (b ≡ true → held ≡ []) → IsHeldBack held → IsHeldBack (held ++ cond b (notice ∷ []) [])
-held_one notice held true fails none back = let empty = none refl in rw empty fails
-held_one notice held false fails none back = rw (append-nil held) back
-
--- a failure of a register of which no change is held back is held back
-pub passes_held : (settle : ℕ) (held : List Notice) (feeder place : ℕ) (change : VerdictChange) → change.holds ≡ false → settle ≢ 0
-    → ((register : ℕ) → is_change_of register (Changed feeder place change) ≡ true → notices_of register held ≡ [])
-    → ArePassedOn settle held (Changed feeder place change ∷ []) [] (held ++ Changed feeder place change ∷ [])
-passes_held settle held feeder place change fails some none =
-    let notice = Changed feeder place change in record {
-      at_once = λ zero. absurd (some zero);
-      others = refl;
-      by_register = λ register back.
-          subst (λ (l : List Notice). IsPassedOn (notices_of register held) (notices_of register (notice ∷ [])) [] l) (sym (filter-append (is_change_of register) held (notice ∷ [])))
-          (held_one notice (notices_of register held) (is_change_of register notice) (ap not fails) (none register) back, inl refl);
-    }
-
 only_one : (front back : List Notice) (one : Notice) → IsHeldBack (front ++ one ∷ back) → (front ≡ []) × (back ≡ []) × (says_fails one ≡ true)
 only_one [] [] one fails = (refl, refl, fails)
 only_one [] (other ∷ back) one fails = absurd fails
@@ -153,11 +124,11 @@ both_empty : (front back : List Notice) → front ++ back ≡ [] → ([] ≡ fro
 both_empty [] back is = (refl, is)
 both_empty (one ∷ front) back is = absurd (cc)
 
-held_behind : (front back : List Notice) → IsHeldBack (front ++ back) → IsHeldBack back
-held_behind [] back held = held
-held_behind (one ∷ []) [] held = tt
-held_behind (one ∷ []) (other ∷ back) held = absurd held
-held_behind (one ∷ other ∷ front) back held = absurd held
+held_after : (front back : List Notice) → IsHeldBack (front ++ back) → IsHeldBack back
+held_after [] back held = held
+held_after (one ∷ []) [] held = tt
+held_after (one ∷ []) (other ∷ back) held = absurd held
+held_after (one ∷ other ∷ front) back held = absurd held
 
 all_changes : (held : List Held) → [] ≡ filter is_no_change (held_notices held)
 all_changes [] = refl
@@ -172,7 +143,7 @@ passes_due settle held first left held_is =
       by_register = λ register back.
           let of : notices_of register (held_notices held) ≡ notices_of register (held_notices first) ++ notices_of register (held_notices left) =
           ap (notices_of register) parts ∙ filter-append (is_change_of register) (held_notices first) (held_notices left) in
-          (held_behind (notices_of register (held_notices first)) (notices_of register (held_notices left)) (subst IsHeldBack of back), inl (append-nil (notices_of register (held_notices held)) ∙ of));
+          (held_after (notices_of register (held_notices first)) (notices_of register (held_notices left)) (subst IsHeldBack of back), inl (append-nil (notices_of register (held_notices held)) ∙ of));
     }
 
 -- what is held back, with one of it taken out
@@ -184,17 +155,6 @@ pub same_at : (items : List Held) (at : ℕ) (a b : Held) → at < length items 
 same_at [] at a b within = absurd (omega arith)
 same_at (one ∷ items) zero a b within = refl
 same_at (one ∷ items) (suc at) a b within = same_at items at a b (omega arith)
-
-none_more : (register : ℕ) (front : List Notice) (one : Notice) (b : Bool) → is_change_of register one ≡ b → b ≡ false → notices_of register front ≡ [] → notices_of register (front ++ one ∷ []) ≡ []
-none_more register front one b is other none = filter-append (is_change_of register) front (one ∷ []) ∙ rw (none, is, other) refl
-
--- none is of a register up to one more that is of another
-pub none_next : (register : ℕ) (items : List Held) (at next : ℕ) (one : Held) → at < length items → suc at ≡ next → one ≡ slice_index_or items at one → is_change_of register (held_notice one) ≡ false
-    → notices_of register (held_notices (take at items)) ≡ [] → notices_of register (held_notices (take next items)) ≡ []
-none_next register items at next one within up is other none =
-    let more : held_notices (take next items) ≡ held_notices (take at items) ++ held_notice one ∷ [] =
-    ap (λ (k : ℕ). held_notices (take k items)) (sym up) ∙ ap held_notices (take-suc items at one within) ∙ map-append held_notice (take at items) (slice_index_or items at one ∷ []) ∙ ap (λ (x : Held). held_notices (take at items) ++ held_notice x ∷ []) (sym is) in
-    ap (notices_of register) more ∙ none_more register (held_notices (take at items)) (held_notice one) (is_change_of register (held_notice one)) refl other none
 
 pub same_register : (a b : RegId) → nat_eq a.0 b.0 ≡ true → a ≡ b
 same_register a b is = let e : a.0 ≡ b.0 = grind (arith, nat_tests) in of_number a b e

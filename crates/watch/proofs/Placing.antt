@@ -12,7 +12,7 @@ use Rattle.jepsen_form.specs.declared.item.Item.{Item}
 use Rattle.pairing.specs.Accepted.{Placed, accepted}
 use Rattle.pairing.specs.Step.{step_of}
 use Rattle.pairing.specs.declared.step.Step.TheVariants as steps
-use Rattle.logs.specs.Steps.{StepResult, by_pairing, edit_on, edits_among, placed, placed_from, steps_behind, steps_of}
+use Rattle.logs.specs.Steps.{StepResult, by_pairing, edit_on, edits_among, placed, placed_from, steps_after, steps_of}
 use Rattle.feeders.proofs.Items.{placed_on, not_placed}
 use Rattle.watch.specs.Trace.{IsNoEdit, item_moment, EditsNothing, IsNotAfter, IsInOrderWith, IsPlainTrace}
 
@@ -55,13 +55,13 @@ pub record IsPlain (items : List Placed) : Type 0 where
   pub order : AllPairs GoesBefore items
 
 -- the edits of the register among the steps of a feeder's items, in order, after the items before
-abbrev pub edits_behind : ℕ → RegId → List Placed → List Placed → List AnEdit
-edits_behind feeder register before [] = []
-edits_behind feeder register before (one ∷ items) =
-    edit_list register (by_pairing (step_of feeder (accepted before) one.place one.item)) ++ edits_behind feeder register (before ++ one ∷ []) items
+abbrev pub edits_after : ℕ → RegId → List Placed → List Placed → List AnEdit
+edits_after feeder register before [] = []
+edits_after feeder register before (one ∷ items) =
+    edit_list register (by_pairing (step_of feeder (accepted before) one.place one.item)) ++ edits_after feeder register (before ++ one ∷ []) items
 
 abbrev pub edits_of_items : ℕ → RegId → List Placed → List AnEdit
-edits_of_items feeder register items = edits_behind feeder register [] items
+edits_of_items feeder register items = edits_after feeder register [] items
 
 -- the items of elements that edit nothing edit nothing
 unedited_from : (place : ℕ) (items : List (Result Item FormFault)) → All EditsNothing items → All (λ one. IsNoEdit one.item) (placed_from place items)
@@ -98,17 +98,17 @@ pub plain_placed : (items : List (Result Item FormFault)) → IsPlainTrace items
 plain_placed items trace = record { unedited = unedited_from 0 items trace.unedited; order = order_from 0 items trace.order }
 
 -- the edits among the steps of elements are those of their items
-among_behind : (feeder : ℕ) (register : RegId) (before items : List (Result Item FormFault)) → edit_lists register (steps_behind feeder before items) ≡ edits_behind feeder register (placed before) (placed_from (length before) items)
-among_behind feeder register before [] = refl
-among_behind feeder register before (Err fault ∷ items) =
-    among_behind feeder register (before ++ Err fault ∷ []) items
-    ∙ ap (λ (b : List Placed). edits_behind feeder register b (placed_from (length (before ++ Err fault ∷ [])) items)) (not_placed before fault)
-    ∙ ap (λ (n : ℕ). edits_behind feeder register (placed before) (placed_from n items)) (length_push before (Err fault))
-among_behind feeder register before (Ok item ∷ items) =
+among_following : (feeder : ℕ) (register : RegId) (before items : List (Result Item FormFault)) → edit_lists register (steps_after feeder before items) ≡ edits_after feeder register (placed before) (placed_from (length before) items)
+among_following feeder register before [] = refl
+among_following feeder register before (Err fault ∷ items) =
+    among_following feeder register (before ++ Err fault ∷ []) items
+    ∙ ap (λ (b : List Placed). edits_after feeder register b (placed_from (length (before ++ Err fault ∷ [])) items)) (not_placed before fault)
+    ∙ ap (λ (n : ℕ). edits_after feeder register (placed before) (placed_from n items)) (length_push before (Err fault))
+among_following feeder register before (Ok item ∷ items) =
     ap (λ (es : List AnEdit). edit_list register (by_pairing (step_of feeder (accepted (placed before)) (length before) item)) ++ es)
-    (among_behind feeder register (before ++ Ok item ∷ []) items
-    ∙ ap (λ (b : List Placed). edits_behind feeder register b (placed_from (length (before ++ Ok item ∷ [])) items)) (placed_on before item)
-    ∙ ap (λ (n : ℕ). edits_behind feeder register (placed before ++ record { place = length before; item = item } ∷ []) (placed_from n items)) (length_push before (Ok item)))
+    (among_following feeder register (before ++ Ok item ∷ []) items
+    ∙ ap (λ (b : List Placed). edits_after feeder register b (placed_from (length (before ++ Ok item ∷ [])) items)) (placed_on before item)
+    ∙ ap (λ (n : ℕ). edits_after feeder register (placed before ++ record { place = length before; item = item } ∷ []) (placed_from n items)) (length_push before (Ok item)))
 
 pub edits_are : (feeder : ℕ) (register : RegId) (items : List (Result Item FormFault)) → edit_lists register (steps_of feeder items) ≡ edits_of_items feeder register (placed items)
-edits_are feeder register items = among_behind feeder register [] items
+edits_are feeder register items = among_following feeder register [] items

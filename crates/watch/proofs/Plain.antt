@@ -34,8 +34,8 @@ use Rattle.pairing.specs.Step.{id_of, act_of, value_read, append_of, amendment_o
 use Rattle.watch.specs.Coming.{ComesLast, ComeInOrder, IsLatest}
 use Rattle.logs.specs.Steps.{by_pairing}
 use Rattle.watch.specs.Trace.{IsNoEdit, item_moment, IsNotAfter}
-use Rattle.watch.proofs.Placing.{edit_list, GoesBefore, IsPlain, edits_behind, edits_of_items}
-use Rattle.watch.proofs.Members.{here, in_none, kept_stands}
+use Rattle.watch.proofs.Placing.{edit_list, GoesBefore, IsPlain, edits_after, edits_of_items}
+use Rattle.watch.proofs.Members.{here, in_none, kept_present}
 use Rattle.watch.proofs.Failing.{after_one}
 use Rattle.watch.proofs.Waits.{unanswered_push, refused_push, taken_push, writes, IsBehind, IsOpen, Stands, later, fewer_wait, fewer_stand, invoked, appended, ended}
 
@@ -107,7 +107,7 @@ module _ (feeder : ℕ) (register : RegId) (before items : List Placed) (place :
 
     latest : (m : Moment) → event.moment ≡ Some m → IsLatest held.ops m
     latest m e = all_from (λ op. (op.begin.0 ≤ m.0) × IfSome op.end (λ end. end.0 ≤ m.0)) held.ops
-        (λ op h. let b = s.behind op h one (here one items) in (subst (IsNotAfter op.begin) e b.begin, by_end op.end b.end))
+        (λ op h. let b = s.following op h one (here one items) in (subst (IsNotAfter op.begin) e b.begin, by_end op.end b.end))
       where
         by_end : (end : Option Moment) → IfSome end (λ x. IsNotAfter x event.moment) → IfSome end (λ x. x.0 ≤ m.0)
         by_end None h = tt
@@ -143,8 +143,8 @@ module _ (feeder : ℕ) (register : RegId) (before items : List Placed) (place :
             parts = record { invocation = event.text; answer = None; amendment = None };
           }
 
-          behind_new : (next : Placed) → Contains items next → IsBehind op next
-          behind_new next k = record { place = (order next k).place; begin = not_after_next m e next k; end = tt }
+          after_new : (next : Placed) → Contains items next → IsBehind op next
+          after_new next k = record { place = (order next k).place; begin = not_after_next m e next k; end = tt }
 
           open_new : (process : ℤ) (said : Invocation) → others process ≡ Some said → IsOpen feeder said op
           open_new process said h is = by_cases (cases process said h)
@@ -156,14 +156,14 @@ module _ (feeder : ℕ) (register : RegId) (before items : List Placed) (place :
                   absurd (omega arith)
               by_cases (inr (f, g)) = (refl, act_writes event.action event.value ∙ sym (ap (λ (i : Invocation). writes i.action) g))
 
-          stands_too : Stands feeder others items (held.ops ++ op ∷ [])
-          stands_too = appended feeder others items held.ops op behind_new open_new waits_too
+          present_too : Stands feeder others items (held.ops ++ op ∷ [])
+          present_too = appended feeder others items held.ops op after_new open_new waits_too
 
     invoke_goes : (reg : Option RegId) (m : Option Moment) → event.moment ≡ m → Waited (invocation_by place event stages.Invoke reg) → Goes feeder held others items (edit_list register (Ok (invoke_step feeder place event reg m)))
     invoke_goes None m e w = (tt, answered w)
     invoke_goes (Some reg) None e w = (tt, waits_too reg w)
     invoke_goes (Some reg) (Some m) e w =
-        one_edit feeder held others items (reg.0 == register.0) (append_of feeder place event m) (refl, latest m e) (waits_too reg w) (stands_too reg w m e)
+        one_edit feeder held others items (reg.0 == register.0) (append_of feeder place event m) (refl, latest m e) (waits_too reg w) (present_too reg w m e)
 
     -- an answer to an invocation
     module _ (said : Invocation) (u : waits event.process ≡ Some said) (w : Waited None) where
@@ -192,7 +192,7 @@ module _ (feeder : ℕ) (register : RegId) (before items : List Placed) (place :
           (all_from (λ op. op.id ≡ id_of feeder said.place → op.end ≡ None) held.ops (λ op h is. (no_end op h is).0))
           (answered w)
           (fewer_stand feeder others items held.ops (filter (λ op. not (same_id op.id (id_of feeder said.place))) held.ops)
-          (λ op h. (kept_stands (λ op. not (same_id op.id (id_of feeder said.place))) held.ops op h).0) (answered w))
+          (λ op h. (kept_present (λ op. not (same_id op.id (id_of feeder said.place))) held.ops op h).0) (answered w))
 
     ok_by : (said : Invocation) → waits event.process ≡ Some said → (t : Bool) → answers said event ≡ t
         → (is_some (if t then None else Some AnswerMismatch) ≡ true → Stands feeder others items held.ops) → (is_some (if t then None else Some AnswerMismatch) ≡ false → Waited None)
@@ -246,27 +246,27 @@ module _ (feeder : ℕ) (register : RegId) where
   standing_more held [] rest = refl
   standing_more held (edit ∷ first) rest = standing_more (after_edit held edit) first rest
 
-  come_behind : (before items : List Placed) (held : RegisterState) → All (λ one. IsNoEdit one.item) items → AllPairs GoesBefore items
-      → Stands feeder (unanswered_of (accepted before)) items held.ops → ComeInOrder held (edits_behind feeder register before items)
-  come_behind before [] held plain order s = tt
-  come_behind before (one ∷ items) held plain order s =
-      let (first, stands) = goes before items one.place one.item held (All-head (λ one. IsNoEdit one.item) one items plain) s (λ next k. All-contains (GoesBefore one) items next (λ i d lt. order zero (suc i) d (omega arith) (omega arith)) k) in
+  come_after : (before items : List Placed) (held : RegisterState) → All (λ one. IsNoEdit one.item) items → AllPairs GoesBefore items
+      → Stands feeder (unanswered_of (accepted before)) items held.ops → ComeInOrder held (edits_after feeder register before items)
+  come_after before [] held plain order s = tt
+  come_after before (one ∷ items) held plain order s =
+      let (first, present) = goes before items one.place one.item held (All-head (λ one. IsNoEdit one.item) one items plain) s (λ next k. All-contains (GoesBefore one) items next (λ i d lt. order zero (suc i) d (omega arith) (omega arith)) k) in
       let mine : List AnEdit = edit_list register (by_pairing (step_of feeder (accepted before) one.place one.item)) in
-      come_append held mine (edits_behind feeder register (before ++ one ∷ []) items) first
-      (come_behind (before ++ one ∷ []) items (standing held mine) (All-tail (λ one. IsNoEdit one.item) one items plain)
-      (λ i j d lt lt'. order (suc i) (suc j) d (omega arith) (omega arith)) stands)
+      come_append held mine (edits_after feeder register (before ++ one ∷ []) items) first
+      (come_after (before ++ one ∷ []) items (standing held mine) (All-tail (λ one. IsNoEdit one.item) one items plain)
+      (λ i j d lt lt'. order (suc i) (suc j) d (omega arith) (omega arith)) present)
 
   -- before the first item nothing stands and nothing waits
   at_first : (items : List Placed) → Stands feeder (unanswered_of (accepted [])) items []
   at_first items = record {
-    behind = λ op h. absurd (in_none op h);
+    following = λ op h. absurd (in_none op h);
     sooner = λ process said w. absurd (cc);
     unended = λ process said w. absurd (cc);
     own = λ p q a b u w. absurd (cc);
   }
 
   pub plain_in_order : (claim : ClaimModel) (items : List Placed) → IsPlain items → ComeInOrder (unedited claim) (edits_of_items feeder register items)
-  plain_in_order claim items trace = come_behind [] items (unedited claim) trace.unedited trace.order (at_first items)
+  plain_in_order claim items trace = come_after [] items (unedited claim) trace.unedited trace.order (at_first items)
 
 pub come_rest : (held : RegisterState) (first rest : List AnEdit) → ComeInOrder held (first ++ rest) → ComeInOrder (standing held first) rest
 come_rest held [] rest h = h

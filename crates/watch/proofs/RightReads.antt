@@ -15,10 +15,6 @@ use Rattle.intervals.specs.Standing.{IsPermitted}
 use Rattle.intervals.proofs.Agreement.{Decides-list_any, Decides-same_value, Decides-overlaps_write}
 use Rattle.intervals.proofs.Members.{all_from}
 
--- the second operation is a write that precedes the first
-abbrev IsEarlier : Op → Op → Type 0
-IsEarlier r v = IsWrite v × Precedes v r
-
 -- of the reads before an edit: each stands after it, the same writes precede it, and each write that overlaps it after
 -- the edit has the value of one that overlapped it before
 pub record StaysUnder (ops after : List Op) (r : Op) : Type 0 where
@@ -43,7 +39,7 @@ initial_allowed (Some values) initial value e = inr e
 module _ (claim : ClaimModel) (ops after : List Op) (permitted : All (λ w. IsWrite w → IsPermitted claim w) ops) (r : Op) (under : StaysUnder ops after r) where
   last_before : (w : Op) → IsLastBefore after r w → IsLastBefore ops r w
   last_before w is = record {
-    stands = under.stood w is.write is.before is.stands;
+    present = under.stood w is.write is.before is.present;
     write = is.write;
     before = is.before;
     last = all_from (λ v. IsWrite v → Precedes v r → v.begin.0 ≤ w.begin.0) ops
@@ -58,27 +54,27 @@ module _ (claim : ClaimModel) (ops after : List Op) (permitted : All (λ w. IsWr
   any_of : (P : Op → Type 0) (xs : List Op) (w : Op) → Contains xs w → P w → Any P xs
   any_of P xs w h p = (h.0, w, h.1, h.2, p)
 
-  stands_any : (P : Op → Type 0) (xs : List Op) → Any P xs → (w : Op) × Contains xs w × P w
-  stands_any P xs h = (h.1, (h.0, h.2, h.3), h.4)
+  present_any : (P : Op → Type 0) (xs : List Op) → Any P xs → (w : Op) × Contains xs w × P w
+  present_any P xs h = (h.1, (h.0, h.2, h.3), h.4)
 
   overlapped : OverlapsWrite after r → OverlapsWrite ops r
   overlapped h =
-      let (v, at, is) = stands_any (λ w. IsWrite w × Overlaps w r) after h in
-      let (w, stands, write, over, same) = under.over v is.0 is.1 at in
-      any_of (λ w. IsWrite w × Overlaps w r) ops w stands (write, over)
+      let (v, at, is) = present_any (λ w. IsWrite w × Overlaps w r) after h in
+      let (w, present, write, over, same) = under.over v is.0 is.1 at in
+      any_of (λ w. IsWrite w × Overlaps w r) ops w present (write, over)
 
   pub regular_before : IsRegularRead claim after r → IsRegularRead claim ops r
   regular_before (inl any) =
-      let (v, at, is) = stands_any (λ w. IsWrite w × Overlaps w r × (value_of r.act ≡ value_of w.act)) after any in
-      let (w, stands, write, over, same) = under.over v is.0 is.1 at in
-      inl (any_of (λ w. IsWrite w × Overlaps w r × (value_of r.act ≡ value_of w.act)) ops w stands (write, over, is.2 ∙ same))
+      let (v, at, is) = present_any (λ w. IsWrite w × Overlaps w r × (value_of r.act ≡ value_of w.act)) after any in
+      let (w, present, write, over, same) = under.over v is.0 is.1 at in
+      inl (any_of (λ w. IsWrite w × Overlaps w r × (value_of r.act ≡ value_of w.act)) ops w present (write, over, is.2 ∙ same))
   regular_before (inr last) = inr (returns_last last)
 
   -- the value of the last write, or the initial one, is in the value set
   last_in_set : ReturnsLast claim.initial ops r → IsInValueSet claim (value_of r.act)
   last_in_set (inl (w, is, e)) =
       subst (IsInValueSet claim) (sym e)
-      (allowed claim.domain claim.initial (value_of w.act) (All-contains (λ w. IsWrite w → IsPermitted claim w) ops w permitted is.stands is.write).value)
+      (allowed claim.domain claim.initial (value_of w.act) (All-contains (λ w. IsWrite w → IsPermitted claim w) ops w permitted is.present is.write).value)
   last_in_set (inr (none, e)) = initial_allowed claim.domain claim.initial (value_of r.act) e
 
   pub safe_before : IsSafeRead claim after r → IsSafeRead claim ops r

@@ -22,7 +22,7 @@ use Rattle.pairing.specs.declared.step.Step.{Step}
 use Rattle.pairing.specs.declared.step.Step.TheVariants as steps
 use Rattle.pairing.specs.Accepted.{unanswered_of, event_fault, accepted}
 use Rattle.pairing.specs.Step.{invoke_step, ok_step, event_step, unless}
-use Rattle.logs.specs.Steps.{by_pairing, placed, step_behind, steps_behind}
+use Rattle.logs.specs.Steps.{by_pairing, placed, step_after, steps_after}
 use Rattle.watch.specs.Coming.{LeavesReadValues, LeaveReadValues}
 use Rattle.watch.specs.Trace.{EditsNothing, IsNoFail}
 use Rattle.watch.proofs.Placing.{edit_list, edit_lists}
@@ -79,7 +79,7 @@ module _ (feeder : ℕ) (register : RegId) where
   event_withdraws_nothing u place event stages.Fail n = absurd (n refl)
   event_withdraws_nothing u place event stages.Info n = tt
 
-  one_element : (before : List (Result Item FormFault)) (one : Result Item FormFault) → EditsNothing one → IsNoFail one → AllByRecursion WithdrawsNothing (edit_list register (step_behind feeder before one))
+  one_element : (before : List (Result Item FormFault)) (one : Result Item FormFault) → EditsNothing one → IsNoFail one → AllByRecursion WithdrawsNothing (edit_list register (step_after feeder before one))
   one_element before (Err fault) plain n = tt
   one_element before (Ok (Event event)) plain n =
       let u : Option Invocation = unanswered_of (accepted (placed before)) event.process in
@@ -90,9 +90,9 @@ module _ (feeder : ℕ) (register : RegId) where
   one_element before (Ok (Ask on)) plain n = tt
   one_element before (Ok Skipped) plain n = tt
 
-  pub withdraw_nothing : (before items : List (Result Item FormFault)) → All EditsNothing items → All IsNoFail items → AllByRecursion WithdrawsNothing (edit_lists register (steps_behind feeder before items))
+  pub withdraw_nothing : (before items : List (Result Item FormFault)) → All EditsNothing items → All IsNoFail items → AllByRecursion WithdrawsNothing (edit_lists register (steps_after feeder before items))
   withdraw_nothing before [] plain n = tt
   withdraw_nothing before (one ∷ items) plain n =
-      both (edit_list register (step_behind feeder before one)) (edit_lists register (steps_behind feeder (before ++ one ∷ []) items))
+      both (edit_list register (step_after feeder before one)) (edit_lists register (steps_after feeder (before ++ one ∷ []) items))
       (one_element before one (All-head EditsNothing one items plain) (All-head IsNoFail one items n))
       (withdraw_nothing (before ++ one ∷ []) items (All-tail EditsNothing one items plain) (All-tail IsNoFail one items n))

@@ -57,7 +57,7 @@ IsOpen feeder said op = op.id ≡ id_of feeder said.place → (op.end ≡ None) 
 -- before the items: each operation is behind them, those of waiting invocations are unfinished, and no two processes
 -- wait for one invocation
 pub record Stands (feeder : ℕ) (waits : ℤ → Option Invocation) (items : List Placed) (ops : List Op) : Type 0 where
-  pub behind : (op : Op) → Contains ops op → (next : Placed) → Contains items next → IsBehind op next
+  pub following : (op : Op) → Contains ops op → (next : Placed) → Contains items next → IsBehind op next
   pub sooner : (process : ℤ) (said : Invocation) → waits process ≡ Some said → (next : Placed) → Contains items next → said.place < next.place
   pub unended : (process : ℤ) (said : Invocation) → waits process ≡ Some said → (op : Op) → Contains ops op → IsOpen feeder said op
   pub own : (p q : ℤ) (a b : Invocation) → waits p ≡ Some a → waits q ≡ Some b → a.place ≡ b.place → p ≡ q
@@ -70,7 +70,7 @@ module _ (feeder : ℕ) where
   -- one item less comes
   pub later : (waits : ℤ → Option Invocation) (one : Placed) (items : List Placed) (ops : List Op) → Stands feeder waits (one ∷ items) ops → Stands feeder waits items ops
   later waits one items ops s = record {
-    behind = λ op h next k. s.behind op h next (there one items next k);
+    following = λ op h next k. s.following op h next (there one items next k);
     sooner = λ process said w next k. s.sooner process said w next (there one items next k);
     unended = s.unended;
     own = s.own;
@@ -79,7 +79,7 @@ module _ (feeder : ℕ) where
   -- fewer invocations wait
   pub fewer_wait : (waits others : ℤ → Option Invocation) (items : List Placed) (ops : List Op) → ((process : ℤ) (said : Invocation) → others process ≡ Some said → waits process ≡ Some said) → Stands feeder waits items ops → Stands feeder others items ops
   fewer_wait waits others items ops waited s = record {
-    behind = s.behind;
+    following = s.following;
     sooner = λ process said w. s.sooner process said (waited process said w);
     unended = λ process said w. s.unended process said (waited process said w);
     own = λ p q a b u w. s.own p q a b (waited p a u) (waited q b w);
@@ -88,7 +88,7 @@ module _ (feeder : ℕ) where
   -- fewer operations stand
   pub fewer_stand : (waits : ℤ → Option Invocation) (items : List Placed) (ops others : List Op) → ((op : Op) → Contains others op → Contains ops op) → Stands feeder waits items ops → Stands feeder waits items others
   fewer_stand waits items ops others stood s = record {
-    behind = λ op h. s.behind op (stood op h);
+    following = λ op h. s.following op (stood op h);
     sooner = s.sooner;
     unended = λ process said w op h. s.unended process said w op (stood op h);
     own = s.own;
@@ -102,7 +102,7 @@ module _ (feeder : ℕ) where
     first = here one items
 
     not_new : (op : Op) → Contains ops op → op.id ≢ id_of feeder one.place
-    not_new op h e = let lt = (s.behind op h one first).place in let same = same_place feeder op one.place e in absurd (omega arith)
+    not_new op h e = let lt = (s.following op h one first).place in let same = same_place feeder op one.place e in absurd (omega arith)
 
     older : (p : ℤ) (said : Invocation) → waits p ≡ Some said → said.place ≢ one.place
     older p said w e = let lt = s.sooner p said w one first in absurd (omega arith)
@@ -126,7 +126,7 @@ module _ (feeder : ℕ) where
 
     pub invoked : Stands feeder others items ops
     invoked = record {
-      behind = λ op h next k. s.behind op h next (there one items next k);
+      following = λ op h next k. s.following op h next (there one items next k);
       sooner = λ p said w next k. sooner_still p said next k (cases p said w);
       unended = λ p said w op h. unended_still p said op h (cases p said w);
       own = λ p q a b u w same. own_still p q a b same (cases p a u) (cases q b w);
@@ -135,16 +135,16 @@ module _ (feeder : ℕ) where
   -- one more operation stands
   pub appended : (waits : ℤ → Option Invocation) (items : List Placed) (ops : List Op) (op : Op) → ((next : Placed) → Contains items next → IsBehind op next)
       → ((process : ℤ) (said : Invocation) → waits process ≡ Some said → IsOpen feeder said op) → Stands feeder waits items ops → Stands feeder waits items (ops ++ op ∷ [])
-  appended waits items ops op behind_new open_new s = record {
-    behind = λ a h next k. behind a next k (Contains-push_cases ops op a h);
+  appended waits items ops op after_new open_new s = record {
+    following = λ a h next k. following a next k (Contains-push_cases ops op a h);
     sooner = s.sooner;
     unended = λ process said w a h. unended process said w a (Contains-push_cases ops op a h);
     own = s.own;
   }
     where
-      behind : (a : Op) (next : Placed) → Contains items next → Contains ops a ⊎ (op ≡ a) → IsBehind a next
-      behind a next k (inl h) = s.behind a h next k
-      behind a next k (inr e) = subst (λ (o : Op). IsBehind o next) e (behind_new next k)
+      following : (a : Op) (next : Placed) → Contains items next → Contains ops a ⊎ (op ≡ a) → IsBehind a next
+      following a next k (inl h) = s.following a h next k
+      following a next k (inr e) = subst (λ (o : Op). IsBehind o next) e (after_new next k)
 
       unended : (process : ℤ) (said : Invocation) → waits process ≡ Some said → (a : Op) → Contains ops a ⊎ (op ≡ a) → IsOpen feeder said a
       unended process said w a (inl h) = s.unended process said w a h
@@ -160,16 +160,16 @@ module _ (feeder : ℕ) where
     end_is : (x : Op) → (changed x change).end ≡ Some end
     end_is x = ap (λ (e : Option (Option Moment)). unwrap_or e x.end) ends
 
-    changed_behind : (x : Op) (next : Placed) → Contains items next → IsBehind x next → IsBehind (changed x change) next
-    changed_behind x next k b = record {
+    changed_after : (x : Op) (next : Placed) → Contains items next → IsBehind x next → IsBehind (changed x change) next
+    changed_after x next k b = record {
       place = b.place;
       begin = subst (λ (m : Moment). IsNotAfter m (item_moment next.item)) (sym (begin_is x)) b.begin;
       end = subst (λ (e : Option Moment). IfSome e (λ m. IsNotAfter m (item_moment next.item))) (sym (end_is x)) (latest next k);
     }
 
-    behind_after : (x : Op) (next : Placed) → Contains items next → IsBehind x next → (t : Bool) → IsBehind (cond t (changed x change) x) next
-    behind_after x next k b true = changed_behind x next k b
-    behind_after x next k b false = b
+    following_after : (x : Op) (next : Placed) → Contains items next → IsBehind x next → (t : Bool) → IsBehind (cond t (changed x change) x) next
+    following_after x next k b true = changed_after x next k b
+    following_after x next k b false = b
 
     unended_after : (process : ℤ) (said : Invocation) → waits process ≡ Some said → (x : Op) → IsOpen feeder said x → (t : Bool) → same_id x.id id ≡ t → IsOpen feeder said (cond t (changed x change) x)
     unended_after process said w x is true e = λ f. absurd (not_waited process said w (sym f ∙ (Decides-same_id_is x.id id).0 e))
@@ -177,8 +177,8 @@ module _ (feeder : ℕ) where
 
     pub ended : Stands feeder waits items (map (amended id change) ops)
     ended = record {
-      behind = λ op h next k. let (x, at, e) = from_map (amended id change) ops op h in
-          subst (λ (o : Op). IsBehind o next) e (behind_after x next k (s.behind x at next k) (same_id x.id id));
+      following = λ op h next k. let (x, at, e) = from_map (amended id change) ops op h in
+          subst (λ (o : Op). IsBehind o next) e (following_after x next k (s.following x at next k) (same_id x.id id));
       sooner = s.sooner;
       unended = λ process said w op h. let (x, at, e) = from_map (amended id change) ops op h in
           subst (IsOpen feeder said) e (unended_after process said w x (s.unended process said w x at) (same_id x.id id) refl);

@@ -7,35 +7,35 @@ use Rattle.records.specs.Run.{at_most_u64}
 use Rattle.watch.specs.declared.settling.Advance.{Advance}
 use Rattle.watch.specs.declared.settling.Advance.TheVariants.{Took, Over}
 use Rattle.watch.specs.declared.settling.Held.{Held}
-use Rattle.watch.specs.declared.settling.Progress.{Progress}
+use Rattle.watch.specs.declared.settling.FeederProgress.{FeederProgress}
 use Rattle.watch.specs.Settling.{says_fails}
 
 -- how far a feeder has come when it took one more element, or is over
-abbrev pub advanced : Progress → Advance → Progress
+abbrev pub advanced : FeederProgress → Advance → FeederProgress
 advanced progress Took = record { taken = at_most_u64 (progress.taken + 1); over = progress.over }
 advanced progress Over = record { taken = progress.taken; over = true }
 
 -- how far feeders have come when the one of this number went on; where there is none of this number all stays as it is
-abbrev pub advanced_at : List Progress → ℕ → Advance → List Progress
+abbrev pub advanced_at : List FeederProgress → ℕ → Advance → List FeederProgress
 advanced_at [] feeder advance = []
 advanced_at (one ∷ progress) zero advance = advanced one advance ∷ progress
 advanced_at (one ∷ progress) (suc feeder) advance = one ∷ advanced_at progress feeder advance
 
 -- so many feeders that have taken nothing and are not over; none where no failure is held back
-abbrev pub progress_begun : ℕ → ℕ → List Progress
+abbrev pub progress_begun : ℕ → ℕ → List FeederProgress
 progress_begun settle feeders = if settle == 0 then [] else replicate feeders (record { taken = 0; over = false })
 
 -- how many elements each feeder is waited for to have taken, where a failure comes while the one of this number takes
 -- one: `settle` more than it took, that one counted
-abbrev pub until_of : List Progress → ℕ → ℕ → List ℕ
+abbrev pub until_of : List FeederProgress → ℕ → ℕ → List ℕ
 until_of progress settle feeder = map (λ one. at_most_u64 (one.taken + settle)) (advanced_at progress feeder Took)
 
 -- whether a feeder took at least so many elements, or is over
-abbrev pub has_come : Progress → ℕ → Bool
+abbrev pub has_come : FeederProgress → ℕ → Bool
 has_come progress least = progress.over || nat_le least progress.taken
 
 -- whether each feeder has come as far as it is waited for; one that no number is given for is not waited for
-abbrev pub is_due : List ℕ → List Progress → Bool
+abbrev pub is_due : List ℕ → List FeederProgress → Bool
 is_due until progress = list_all (λ pair. has_come pair.0 pair.1) (zip progress until)
 
 -- how many elements the first feeder is waited for to have taken
@@ -43,7 +43,7 @@ abbrev pub least_of : Held → ℕ
 least_of held = slice_index_or held.until.items 0 0
 
 -- how many elements a feeder is waited for to have taken, where it fails a register by the element that it takes now
-abbrev pub most_of : ℕ → Progress → ℕ
+abbrev pub most_of : ℕ → FeederProgress → ℕ
 most_of settle one = at_most_u64 (at_most_u64 (one.taken + 1) + settle)
 
 -- what is held back of the first feeder waits for so many elements of it, or more
@@ -57,7 +57,7 @@ WaitInTurn most [] = Unit {0}
 WaitInTurn most (held ∷ later) = (length held.until.items ≡ 1) × (least_of held ≤ most) × WaitLonger (least_of held) later × WaitInTurn most later
 
 -- whether the first of what is held back is due
-abbrev pub has_due : List Held → List Progress → Bool
+abbrev pub has_due : List Held → List FeederProgress → Bool
 has_due [] progress = false
 has_due (first ∷ held) progress = is_due first.until.items progress
 
@@ -79,7 +79,7 @@ held_notices held = map held_notice held
 -- what is held back when this notice came: what is left of what was held back before, with all that is of another
 -- register, in its order, but for one at most; and after it what is of this register, and waits from now on: where a
 -- failure is to be held back and the notice is one, that notice
-pub record AreHeldFrom (progress : List Progress) (settle : ℕ) (notice : Notice) (before now : List Held) : Type 0 where
+pub record AreHeldFrom (progress : List FeederProgress) (settle : ℕ) (notice : Notice) (before now : List Held) : Type 0 where
   pub left : List Held
   pub new : List Held
   pub parts : now ≡ left ++ new
@@ -90,5 +90,5 @@ pub record AreHeldFrom (progress : List Progress) (settle : ℕ) (notice : Notic
   pub failure : settle ≢ 0 → says_fails notice ≡ true → held_notices new ≡ notice ∷ []
 
 -- those that were held back first, each of them due, are not held back any longer
-abbrev pub AreDueFirst : List Progress → List Held → List Held → Type 0
+abbrev pub AreDueFirst : List FeederProgress → List Held → List Held → Type 0
 AreDueFirst progress before now = (due : List Held) × (before ≡ due ++ now) × All (λ held. is_due held.until.items progress ≡ true) due

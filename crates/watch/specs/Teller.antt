@@ -5,7 +5,7 @@ use Rattle.tower_file.specs.Contents.{Register}
 use Rattle.logs.specs.declared.notice.Notice.{Notice}
 use Rattle.watch.specs.declared.run.Terms.{Terms}
 use Rattle.watch.specs.declared.settling.Held.{Held}
-use Rattle.watch.specs.declared.settling.Progress.{Progress}
+use Rattle.watch.specs.declared.settling.FeederProgress.{FeederProgress}
 use Rattle.watch.specs.declared.teller.TellerState.{TellerState}
 use Rattle.watch.specs.declared.teller.TellerState.TheVariants.{Going, Stopped, OutOfMemory, Unwritable}
 use Rattle.watch.specs.declared.teller.Unwritten.{Unwritten}
@@ -20,16 +20,16 @@ use Rattle.watch.specs.Watched.{IsEnd, ends_at}
 pub record TellerModel : Type 0 where
   pub told : List Notice
   pub held : List Held
-  pub progress : List Progress
+  pub progress : List FeederProgress
   pub state : TellerState
 
 -- a teller that goes on wrote what was due: what is held back first is not
-abbrev pub HasWrittenDue : TellerState → List Progress → List Held → Type 0
+abbrev pub HasWrittenDue : TellerState → List FeederProgress → List Held → Type 0
 HasWrittenDue state progress held = state ≡ Going → has_due held progress ≡ false
 
 -- a teller of one feeder that goes on holds back in turn
-abbrev pub HoldsInTurn : TellerState → ℕ → List Progress → List Held → Type 0
-HoldsInTurn state settle progress held = state ≡ Going → (one : Progress) → progress ≡ one ∷ [] → WaitInTurn (most_of settle one) held
+abbrev pub HoldsInTurn : TellerState → ℕ → List FeederProgress → List Held → Type 0
+HoldsInTurn state settle progress held = state ≡ Going → (one : FeederProgress) → progress ≡ one ∷ [] → WaitInTurn (most_of settle one) held
 
 -- the output has the texts of the notices that were written, and nothing more
 abbrev pub HasWritten : TellerState → Type 0

@@ -21,7 +21,7 @@ ghost use Rattle.shards.specs.Plan.{claims_of};
 ghost use Rattle.shards.specs.VerdictChange.{AreVerdictChanges};
 ghost use Rattle.logs.specs.declared.log.Log.{Log};
 ghost use Rattle.logs.specs.Run.{plan_of_run};
-ghost use Rattle.logs.specs.Steps.{edits_among, steps_behind, steps_of};
+ghost use Rattle.logs.specs.Steps.{edits_among, steps_after, steps_of};
 ghost use Rattle.watch.specs.Coming.{ComesLast, ComeInOrder, LeavesReadValues, LeaveReadValues};
 ghost use Rattle.watch.specs.Trace.{IsNoFail, IsPlainTrace};
 ghost use Rattle.watch.specs.Final.{FailsLast, HasNoFail, IsPlainText};
@@ -31,7 +31,7 @@ ghost use Rattle.watch.specs.Watched.{IsWatched, changes_in};
 ghost use Rattle.watch.specs.Healing.{of_unknown_initial, of_one_process, answered_at, read_then_invoked, write_withdrawn, read_of_one, older_write, seven_within_write};
 
 use intervals::laws::texts_decide_nothing;
-use shards::laws::{each_front_is_legal, what_stands_is_after_all_edits};
+use shards::laws::{each_front_is_legal, what_is_present_after_all_edits};
 
 /// What was told of a shard is the changes of verdicts by the entries of its journal, in order: all of them, or the
 /// first ones where a register that failed ended the watch.
@@ -92,7 +92,7 @@ pub fn a_trace_that_fails_never_holds_again()
         → let after = standing (unedited claim) (edits_among register (steps_of feeder (items ++ more))) in ¬ Holds after.claim after.ops }
     ensures unread { (claim : ClaimModel) (feeder register : ℕ) (items more : List (Result Item FormFault)) → IsPlainTrace (items ++ more)
         → let held = standing (unedited claim) (edits_among register (steps_of feeder items)) in
-        LeaveReadValues held (edits_among register (steps_behind feeder items more)) → ¬ Holds held.claim held.ops
+        LeaveReadValues held (edits_among register (steps_after feeder items more)) → ¬ Holds held.claim held.ops
         → let after = standing (unedited claim) (edits_among register (steps_of feeder (items ++ more))) in ¬ Holds after.claim after.ops }
 {}
 
@@ -123,7 +123,7 @@ pub fn the_first_failure_is_final()
         → (register : ℕ) (claim : ClaimModel) → slice_get (claims_of tower) register ≡ Some claim → (claim.known ≡ true) ⊎ All (HasNoFail tower terms.field log.broken) watched.traces
         → FailsLast change_fails (changes_on register (changes_in terms.shards (register % terms.shards) watched.notices)) }
 {
-    what_stands_is_after_all_edits();
+    what_is_present_after_all_edits();
     each_front_is_legal();
     texts_decide_nothing();
 }

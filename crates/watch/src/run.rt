@@ -16,7 +16,7 @@ use crate::compare::are_told;
 use crate::fault::WatchFault;
 use crate::live::Live;
 use crate::noted::are_noted;
-use crate::settling::{Progress, at_the_beginning};
+use crate::settling::{FeederProgress, at_the_beginning};
 use crate::stoppable::stopped_by;
 use crate::teller::{Beginning, Output, Teller, TellerState};
 use crate::text::NoticeForm;
@@ -88,7 +88,7 @@ pub fn watch_readers<'t, R: Threads + Wait + Sync, S: Read + Drop + Send, W: Wri
 }
 
 /// Feeders that have taken nothing; none are wanted where no failure is held back.
-fn begun(alloc: Global, settle: u64, feeders: usize) -> Result<Vec<Progress>, AllocError>
+fn begun(alloc: Global, settle: u64, feeders: usize) -> Result<Vec<FeederProgress>, AllocError>
     ensures { IfOk result (λ progress. progress.items ≡ progress_begun settle feeders) }
 {
     if settle == 0 {
@@ -113,7 +113,7 @@ fn watch_in<
     readers: Vec<S>,
     pages: &'t Pages,
     terms: &Terms,
-    progress: Vec<Progress>,
+    progress: Vec<FeederProgress>,
     output: Output<'a, W>,
     outcome: &mut Result<Watched<'t>, WatchFault>,
 ) -> Output<'a, W>

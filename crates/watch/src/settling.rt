@@ -15,7 +15,7 @@ use std::alloc::{AllocError, Global};
 
 /// How far a feeder has come.
 #[derive(Clone, Copy)]
-pub struct Progress {
+pub struct FeederProgress {
     /// How many elements it took.
     pub taken: u64,
     /// Whether its trace ended or broke.
@@ -54,7 +54,7 @@ impl Held {
     }
 
     /// Whether each feeder has come as far as it is waited for.
-    pub fn is_due(&self, progress: &[Progress]) -> bool
+    pub fn is_due(&self, progress: &[FeederProgress]) -> bool
         ensures { result ≡ is_due self.now.until.items progress.now }
     {
         progress
@@ -64,19 +64,19 @@ impl Held {
     }
 }
 
-fn has_come(progress: Progress, least: u64) -> bool
+fn has_come(progress: FeederProgress, least: u64) -> bool
     ensures { result ≡ has_come progress least }
 {
     progress.over || least <= progress.taken
 }
 
 /// So many feeders that have taken nothing.
-pub fn at_the_beginning(alloc: Global, feeders: usize) -> Result<Vec<Progress>, AllocError>
+pub fn at_the_beginning(alloc: Global, feeders: usize) -> Result<Vec<FeederProgress>, AllocError>
     ensures { IfOk result (λ progress. progress.items ≡ replicate feeders (record { taken = 0; over = false })) }
 {
     let mut progress = Vec::new(alloc);
     for _ in 0..feeders {
-        progress.push(Progress {
+        progress.push(FeederProgress {
             taken: 0,
             over: false,
         })?;
@@ -85,7 +85,7 @@ pub fn at_the_beginning(alloc: Global, feeders: usize) -> Result<Vec<Progress>, 
 }
 
 /// Notes that a feeder went on; where there is none of this number nothing changes.
-pub fn note_advance(progress: &mut [Progress], feeder: u32, by: Advance)
+pub fn note_advance(progress: &mut [FeederProgress], feeder: u32, by: Advance)
     ensures { progress.new ≡ advanced_at progress.old feeder by }
 {
     let at = feeder as usize;
@@ -94,15 +94,15 @@ pub fn note_advance(progress: &mut [Progress], feeder: u32, by: Advance)
     }
 }
 
-fn advanced(progress: Progress, by: Advance) -> Progress
+fn advanced(progress: FeederProgress, by: Advance) -> FeederProgress
     ensures { result ≡ advanced progress by }
 {
     match by {
-        Advance::Took => Progress {
+        Advance::Took => FeederProgress {
             taken: progress.taken.saturating_add(1),
             over: progress.over,
         },
-        Advance::Over => Progress {
+        Advance::Over => FeederProgress {
             taken: progress.taken,
             over: true,
         },
@@ -115,7 +115,7 @@ fn advanced(progress: Progress, by: Advance) -> Progress
 pub fn passed_on(
     alloc: Global,
     held: &mut Vec<Held>,
-    progress: &[Progress],
+    progress: &[FeederProgress],
     settle: u64,
     notice: Notice,
 ) -> Result<Option<Notice>, AllocError>
@@ -137,7 +137,7 @@ pub fn passed_on(
 fn change_passed_on(
     alloc: Global,
     held: &mut Vec<Held>,
-    progress: &[Progress],
+    progress: &[FeederProgress],
     settle: u64,
     feeder: u32,
     place: u64,
@@ -185,7 +185,7 @@ fn taken_out(held: &mut Vec<Held>, register: RegId) -> Option<Held>
 fn hold(
     alloc: Global,
     held: &mut Vec<Held>,
-    progress: &[Progress],
+    progress: &[FeederProgress],
     settle: u64,
     feeder: u32,
     place: u64,
@@ -208,7 +208,7 @@ fn hold(
 /// now, its own feeder has still to be counted.
 fn until_settled(
     alloc: Global,
-    progress: &[Progress],
+    progress: &[FeederProgress],
     settle: u64,
     feeder: u32,
 ) -> Result<Vec<u64>, AllocError>

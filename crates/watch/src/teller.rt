@@ -5,7 +5,7 @@ ghost use Rattle.std.specs.Option.{option_to_list};
 ghost use Rattle.std.specs.Io.KnownBytes.{Appends};
 ghost use Rattle.logs.specs.declared.notice.Notice.{Notice as ANotice};
 ghost use Rattle.watch.specs.declared.settling.Held.{Held as AHeld};
-ghost use Rattle.watch.specs.declared.settling.Progress.{Progress as AProgress};
+ghost use Rattle.watch.specs.declared.settling.FeederProgress.{FeederProgress as AProgress};
 ghost use Rattle.watch.specs.Due.{AreDueFirst, AreHeldFrom, advanced_at, has_due, held_notices, is_due};
 ghost use Rattle.watch.specs.Teller.{HasTold, HasWrittenDue, ArePassedOn, IsToldAll, IsWritten, TellerModel, state_after};
 ghost use Rattle.watch.specs.Text.{text_of_notice};
@@ -13,7 +13,7 @@ ghost use Rattle.watch.specs.Watched.{ends_at};
 ghost use Rattle.watch.specs.declared.teller.Unwritten.TheVariants.{Memory as OutOfMemory, Write as Refused};
 
 use crate::run::Terms;
-use crate::settling::{Advance, Held, Progress, note_advance, passed_on};
+use crate::settling::{Advance, FeederProgress, Held, note_advance, passed_on};
 use crate::text::{NoticeForm, notice_text};
 use logs::Notice;
 use std::alloc::{AllocError, Global};
@@ -79,7 +79,7 @@ pub struct Teller<'a, 't, W: Write, B: Beginning> {
     out: &'a mut W,
     told: Vec<Notice>,
     held: Vec<Held>,
-    progress: Vec<Progress>,
+    progress: Vec<FeederProgress>,
     alloc: Global,
     state: TellerState,
     of: PhantomData<B>,
@@ -105,7 +105,7 @@ impl<'a, 't, W: Write, B: Beginning> Teller<'a, 't, W, B> {
         alloc: Global,
         tower: &'t Tower,
         terms: Terms,
-        progress: Vec<Progress>,
+        progress: Vec<FeederProgress>,
         output: Output<'a, W>,
     ) -> Self
         requires output { output.out.ghost_name ≡ B.output }
@@ -235,7 +235,7 @@ fn take<W: Write>(
     out: &mut W,
     told: &mut Vec<Notice>,
     held: &mut Vec<Held>,
-    progress: &[Progress],
+    progress: &[FeederProgress],
     alloc: Global,
     tower: &Tower,
     terms: &Terms,
@@ -257,7 +257,7 @@ fn take<W: Write>(
 fn noted(
     told: &mut Vec<Notice>,
     held: &mut Vec<Held>,
-    progress: &[Progress],
+    progress: &[FeederProgress],
     alloc: Global,
     terms: &Terms,
     notice: Notice,
@@ -276,7 +276,7 @@ fn noted(
 fn write_due<W: Write>(
     out: &mut W,
     held: &mut Vec<Held>,
-    progress: &[Progress],
+    progress: &[FeederProgress],
     alloc: Global,
     tower: &Tower,
     terms: &Terms,
@@ -339,7 +339,7 @@ fn write_left<W: Write>(
 }
 
 /// Whether the oldest of what is held back is due.
-fn has_due(held: &[Held], progress: &[Progress]) -> bool
+fn has_due(held: &[Held], progress: &[FeederProgress]) -> bool
     ensures due { result ≡ has_due held.now progress.now }
     ensures some { IsTrue result → 0 < length held.now }
 {

@@ -8,7 +8,7 @@ use Rattle.words.specs.declared.check.ReportForm.TheVariants.{Report, Summary, J
 use Rattle.words.specs.declared.completion.Shell.TheVariants.{Bash, Zsh, Fish}
 use Rattle.words.specs.declared.lint.LintForm.TheVariants as lint_forms
 use Rattle.words.specs.declared.show.Picture.TheVariants as pictures
-use Rattle.words.specs.declared.show.Theme.TheVariants.{Auto, Dark}
+use Rattle.words.specs.declared.show.ThemeWord.TheVariants.{Auto, Dark}
 use Rattle.words.specs.declared.watch.LineForm.TheVariants as line_forms
 use Rattle.words.specs.Words.{Check, Completion, Explain, Lint, Manual, Safe, Show, Tower, Version, Watch, asked, command_line, is_no_option}
 

@@ -10,7 +10,7 @@ use Rattle.words.specs.declared.check.ReportForm.{ReportForm}
 use Rattle.words.specs.declared.check.MomentKey.{MomentKey}
 use Rattle.words.specs.declared.lint.LintForm.{LintForm}
 use Rattle.words.specs.declared.show.Picture.{Picture}
-use Rattle.words.specs.declared.show.Theme.{Theme}
+use Rattle.words.specs.declared.show.ThemeWord.{ThemeWord}
 use Rattle.words.specs.declared.watch.LineForm.{LineForm}
 use Rattle.words.specs.Words.{Asked, AskedCheck, AskedLint, AskedShow, AskedWatch, asked_by, check_by, command_by, command_line, count_in, form_in, is_set, line_form_in, lint_by, lint_form_in, moments_in, only_by, picture_by, said_in, shards_in, show_by, theme_in, traces_in, watch_by}
 
@@ -58,7 +58,7 @@ pub no_tower_to_watch : (rows : List Row) → first_of (codes "tower") rows ≡ 
 no_tower_to_watch rows none = rw none refl
 
 -- a picture whose arguments are all there
-pub is_show : (rows : List Row) (tower : Text) (moments : MomentKey) (register : Option Text) (picture : Picture) (around : ℕ) (all : Bool) (width : Option ℕ) (theme : Theme) (traces : List Text) → first_of (codes "tower") rows ≡ Some tower → Some moments ≡ said_in moments_in (codes "moment") rows
+pub is_show : (rows : List Row) (tower : Text) (moments : MomentKey) (register : Option Text) (picture : Picture) (around : ℕ) (all : Bool) (width : Option ℕ) (theme : ThemeWord) (traces : List Text) → first_of (codes "tower") rows ≡ Some tower → Some moments ≡ said_in moments_in (codes "moment") rows
     → first_of (codes "register") rows ≡ register → Some picture ≡ picture_by rows → Some around ≡ said_in count_in (codes "around") rows → all ≡ is_set (codes "all") rows → width ≡ said_in count_in (codes "width") rows → Some theme ≡ said_in theme_in (codes "theme") rows
     → traces ≡ traces_in rows → (length traces == 0) ≡ false
     → ◌≡◌ {A = Option AskedShow} (Some (record { tower = tower; moments = moments; register = register; picture = picture; around = around; all = all; width = width; theme = theme; traces = traces })) (show_by rows)

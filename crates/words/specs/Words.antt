@@ -20,8 +20,8 @@ use Rattle.words.specs.declared.lint.LintForm.TheVariants as lint_forms
 use Rattle.words.specs.declared.show.Picture.{Picture}
 use Rattle.words.specs.declared.show.Picture.TheVariants as pictures
 use Rattle.words.specs.declared.show.Show.{Show as HeldShow}
-use Rattle.words.specs.declared.show.Theme.{Theme}
-use Rattle.words.specs.declared.show.Theme.TheVariants.{Auto, Light, Dark}
+use Rattle.words.specs.declared.show.ThemeWord.{ThemeWord}
+use Rattle.words.specs.declared.show.ThemeWord.TheVariants.{Auto, Light, Dark}
 use Rattle.words.specs.declared.watch.LineForm.{LineForm}
 use Rattle.words.specs.declared.watch.LineForm.TheVariants as line_forms
 use Rattle.words.specs.declared.watch.Watch.{Watch as HeldWatch}
@@ -212,7 +212,7 @@ pub record AskedShow : Type 0 where
   pub around : ℕ
   pub all : Bool
   pub width : Option ℕ
-  pub theme : Theme
+  pub theme : ThemeWord
   pub traces : List Text
 
 -- what the words of `lint` ask for
@@ -274,7 +274,7 @@ picture_in svg html ascii =
     else (if ascii then Some pictures.Ascii else Some pictures.Text))
 
 -- the colours that a text names: `auto`, `light` or `dark`
-abbrev pub theme_in : Text → Option Theme
+abbrev pub theme_in : Text → Option ThemeWord
 theme_in text =
     if bytes_eq text (codes "auto") then Some Auto
     else (if bytes_eq text (codes "light") then Some Light
@@ -355,7 +355,7 @@ abbrev pub picture_by : List Row → Option Picture
 picture_by rows = picture_in (is_set (codes "svg") rows) (is_set (codes "html") rows) (is_set (codes "ascii") rows)
 
 -- what `show` asks for by these values and the other arguments; none where they name no trace
-abbrev pub show_of : Text → MomentKey → Picture → ℕ → Theme → List Row → Option AskedShow
+abbrev pub show_of : Text → MomentKey → Picture → ℕ → ThemeWord → List Row → Option AskedShow
 show_of tower moments picture around theme rows =
     if length (traces_in rows) == 0 then None
     else Some (record { tower = tower; moments = moments; register = first_of (codes "register") rows; picture = picture; around = around; all = is_set (codes "all") rows; width = said_in count_in (codes "width") rows; theme = theme; traces = traces_in rows })

@@ -39,7 +39,7 @@ pub(crate) enum Argument {
     Around,
     All,
     Width,
-    Theme,
+    ThemeWord,
     /// `--max N`.
     Most,
     /// `--deny CODES`.
@@ -107,7 +107,7 @@ impl Argument {
             Argument::Around => &AROUND,
             Argument::All => &ALL,
             Argument::Width => &WIDTH,
-            Argument::Theme => &THEME,
+            Argument::ThemeWord => &THEME,
             Argument::Most => &MOST,
             Argument::Denied => &DENIED,
             Argument::Code => &CODE,

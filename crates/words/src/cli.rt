@@ -79,7 +79,7 @@ static COMMANDS: [CommandEntry; 10] = [
             Argument::Around,
             Argument::All,
             Argument::Width,
-            Argument::Theme,
+            Argument::ThemeWord,
             Argument::Traces,
         ],
     },

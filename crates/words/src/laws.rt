@@ -7,7 +7,7 @@ ghost use Rattle.words.specs.declared.check.ReportForm.TheVariants.{Report, Summ
 ghost use Rattle.words.specs.declared.completion.Shell.TheVariants.{Bash, Zsh, Fish};
 ghost use Rattle.words.specs.declared.lint.LintForm.TheVariants as lint_forms;
 ghost use Rattle.words.specs.declared.show.Picture.TheVariants as pictures;
-ghost use Rattle.words.specs.declared.show.Theme.TheVariants.{Auto, Dark};
+ghost use Rattle.words.specs.declared.show.ThemeWord.TheVariants.{Auto, Dark};
 ghost use Rattle.words.specs.declared.watch.LineForm.TheVariants as line_forms;
 ghost use Rattle.words.specs.Words.{Check, Completion, Explain, Lint, Manual, Safe, Show, Tower, Version, Watch, asked, command_line, is_no_option};
 

@@ -52,6 +52,6 @@ pub use check::{Check, MomentKey, ReportForm};
 pub use completion::Shell;
 pub use lint::{Lint, LintForm};
 pub use manual::help_of_all;
-pub use show::{Picture, Show, Theme};
+pub use show::{Picture, Show, ThemeWord};
 pub use watch::{LineForm, Watch};
 pub use words::{Command, no_text, read_words};

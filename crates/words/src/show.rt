@@ -24,7 +24,7 @@ pub enum Picture {
 
 /// The colours of a picture.
 #[derive(Clone, Copy)]
-pub enum Theme {
+pub enum ThemeWord {
     /// Light or dark, as the reader's machine asks for.
     Auto,
     Light,
@@ -46,7 +46,7 @@ pub struct Show<'a> {
     pub all: bool,
     /// How wide lines or rows may be, in characters or units; where none is given, 100 characters or 1000 units.
     pub width: Option<u64>,
-    pub theme: Theme,
+    pub theme: ThemeWord,
     /// One or more.
     pub traces: Vec<&'a str>,
 }
@@ -123,21 +123,21 @@ pub(crate) fn is_set(found: &ArgMatches<'_>, name: &str) -> bool
     }
 }
 
-fn theme_of(found: &ArgMatches<'_>) -> Option<Theme>
+fn theme_of(found: &ArgMatches<'_>) -> Option<ThemeWord>
     ensures { result ≡ said_in theme_in (codes "theme") (rows_of (found_of found.now)) }
 {
     theme_in(found.get_str("theme")?)
 }
 
-fn theme_in(text: &str) -> Option<Theme>
+fn theme_in(text: &str) -> Option<ThemeWord>
     ensures { result ≡ theme_in text.now }
 {
     if text == "auto" {
-        Some(Theme::Auto)
+        Some(ThemeWord::Auto)
     } else if text == "light" {
-        Some(Theme::Light)
+        Some(ThemeWord::Light)
     } else if text == "dark" {
-        Some(Theme::Dark)
+        Some(ThemeWord::Dark)
     } else {
         None
     }

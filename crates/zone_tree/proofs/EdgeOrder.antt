@@ -1,17 +1,19 @@
 -- Edges are in one strict order.
-use Rattle.std.proofs.Common.{◌≡◌, ℕ, ◌<◌, ◌⊎◌, inl, inr, false, Decides, refl, sym, ap, subst, arith}
-use Rattle.std.proofs.lemmas.Bool.{ltb-true, lt-ltb, cases_order, false_from_ne_true}
-use Rattle.std.proofs.lemmas.Bool.Decides.{Decides-eqb}
+use Rattle.std.proofs.Common.{◌≡◌, ◌⊎◌, inl, inr, false, Decides, refl, sym, ap, subst}
+use Rattle.std.specs.Prelude.{IsTrue}
+use Rattle.std.proofs.lemmas.Bool.{false_from_ne_true}
 use Rattle.intervals.specs.declared.operation.Moment.{Moment}
 use Rattle.zone_tree.specs.declared.edge.Edge.{Edge}
 use Rattle.zone_tree.specs.declared.edge.Edge.TheVariants.{Before, At, Never}
 use Rattle.summary_tree.specs.Order.{IsStrictOrder, IsExact}
 use Rattle.zone_tree.specs.declared.zone.Zone.{Zone}
 use Rattle.zone_tree.specs.Edge.{edge_before, ComesBefore, same_edge}
+use Rattle.zone_tree.specs.StretchOrder.{moment_before}
+use Rattle.zone_tree.proofs.MomentOrder.{Decides-same_moment, moment_order}
 
 pub before_irreflexive : (a : Edge) → ¬ ComesBefore a a
 before_irreflexive Before h = absurd (cc)
-before_irreflexive (At m) h = let less : m.0 < m.0 = ltb-true m.0 m.0 h in omega arith
+before_irreflexive (At m) h = moment_order.irreflexive m h
 before_irreflexive Never h = absurd (cc)
 
 pub before_transitive : (a b c : Edge) → ComesBefore a b → ComesBefore b c → ComesBefore a c
@@ -22,28 +24,22 @@ before_transitive Before (At n) Never p q = refl
 before_transitive Before Never c p q = absurd (cc)
 before_transitive (At m) Before c p q = absurd (cc)
 before_transitive (At m) (At n) Before p q = q
-before_transitive (At m) (At n) (At o) p q =
-    let first : m.0 < n.0 = ltb-true m.0 n.0 p in
-    let second : n.0 < o.0 = ltb-true n.0 o.0 q in
-    lt-ltb m.0 o.0 (omega arith)
+before_transitive (At m) (At n) (At o) p q = moment_order.transitive m n o p q
 before_transitive (At m) (At n) Never p q = refl
 before_transitive (At m) Never c p q = absurd (cc)
 before_transitive Never b c p q = absurd (cc)
 
-same_moment : (m n : Moment) → m.0 ≡ n.0 → At m ≡ At n
-same_moment m n e = ap (λ (k : ℕ). At (record { 0 = k })) e
-
-before_cases_at : (m n : Moment) → (m.0 ≡ n.0) ⊎ ((m.0 < n.0) ⊎ (n.0 < m.0)) → ComesBefore (At m) (At n) ⊎ ((At m ≡ At n) ⊎ ComesBefore (At n) (At m))
-before_cases_at m n (inl e) = inr (inl (same_moment m n e))
-before_cases_at m n (inr (inl p)) = inl (lt-ltb m.0 n.0 p)
-before_cases_at m n (inr (inr p)) = inr (inr (lt-ltb n.0 m.0 p))
+before_cases_at : (m n : Moment) → IsTrue (moment_before m n) ⊎ ((m ≡ n) ⊎ IsTrue (moment_before n m)) → ComesBefore (At m) (At n) ⊎ ((At m ≡ At n) ⊎ ComesBefore (At n) (At m))
+before_cases_at m n (inl p) = inl p
+before_cases_at m n (inr (inl e)) = inr (inl (ap At e))
+before_cases_at m n (inr (inr p)) = inr (inr p)
 
 pub before_cases : (a b : Edge) → ComesBefore a b ⊎ ((a ≡ b) ⊎ ComesBefore b a)
 before_cases Before Before = inr (inl refl)
 before_cases Before (At n) = inl refl
 before_cases Before Never = inl refl
 before_cases (At m) Before = inr (inr refl)
-before_cases (At m) (At n) = before_cases_at m n (cases_order m.0 n.0)
+before_cases (At m) (At n) = before_cases_at m n (moment_order.total m n)
 before_cases (At m) Never = inl refl
 before_cases Never Before = inr (inr refl)
 before_cases Never (At n) = inr (inr refl)
@@ -77,7 +73,7 @@ Decides-same_edge Before Before = (λ _. refl, λ _. refl)
 Decides-same_edge Before (At n) = (λ e. absurd (cc), λ e. absurd (cc))
 Decides-same_edge Before Never = (λ e. absurd (cc), λ e. absurd (cc))
 Decides-same_edge (At m) Before = (λ e. absurd (cc), λ e. absurd (cc))
-Decides-same_edge (At m) (At n) = (λ e. same_moment m n ((Decides-eqb m.0 n.0).0 e), λ e. (Decides-eqb m.0 n.0).1 (cc))
+Decides-same_edge (At m) (At n) = (λ e. ap At ((Decides-same_moment m n).0 e), λ e. (Decides-same_moment m n).1 (cc))
 Decides-same_edge (At m) Never = (λ e. absurd (cc), λ e. absurd (cc))
 Decides-same_edge Never Before = (λ e. absurd (cc), λ e. absurd (cc))
 Decides-same_edge Never (At n) = (λ e. absurd (cc), λ e. absurd (cc))

@@ -46,7 +46,7 @@ is_now found z zones now e h = subst (λ (o : Option Zone). IsFarthest o zones) 
 
 push_first : (zones : List Zone) (z : Zone) → All (λ z. ¬ IsForward z) zones → (z.forward ≡ true) ⊎ (z.forward ≡ false) → IsFarthest (farther_of None z) (zones ++ z ∷ [])
 push_first zones z none (inl e) = is_now None z (zones ++ z ∷ []) (Some z) (taken None z e) (record {
-  stands = Contains-push zones z;
+  present = Contains-push zones z;
   forward = e;
   farthest = All-push (Ends z.right) zones z (All-weaker (λ o. ¬ IsForward o) (Ends z.right) (λ o n f. absurd (n f)) zones none) (λ _. before_irreflexive z.right);
 })
@@ -59,7 +59,7 @@ push_next : (zones : List Zone) (found z : Zone) → IsFarthestForward zones fou
 push_next zones found z is (inl e) =
     let parts = and_parts z.forward (edge_before found.right z.right) e in
     is_now (Some found) z (zones ++ z ∷ []) (Some z) (taken (Some found) z e) (record {
-      stands = Contains-push zones z;
+      present = Contains-push zones z;
       forward = parts.0;
       farthest =
           All-push (Ends z.right) zones z
@@ -67,7 +67,7 @@ push_next zones found z is (inl e) =
           (λ _. before_irreflexive z.right);
     })
 push_next zones found z is (inr e) = is_now (Some found) z (zones ++ z ∷ []) (Some found) (kept (Some found) z e) (record {
-  stands = Contains-append_left zones (z ∷ []) found is.stands;
+  present = Contains-append_left zones (z ∷ []) found is.present;
   forward = is.forward;
   farthest = All-push (Ends found.right) zones z is.farthest (not_farther found z e);
 })
@@ -91,7 +91,7 @@ apart_from_each : (found : Option Zone) (zones : List Zone) (z : Zone) → Stand
 apart_from_each None zones z order none n = All-weaker (λ o. ¬ IsForward o) (λ a. IsForward a → ¬ Conflicts a z) (λ a no f. absurd (no f)) zones none
 apart_from_each (Some found) zones z order is n =
     All-weaker (Ends found.right) (λ a. IsForward a → ¬ Conflicts a z)
-    (λ a ends f c. n (conflict_farther a found z (last_edges zones z order.edges) f is.forward (before_last zones z found order.by_left is.stands) (ends f) c))
+    (λ a ends f c. n (conflict_farther a found z (last_edges zones z order.edges) f is.forward (before_last zones z found order.by_left is.present) (ends f) c))
     zones is.farthest
 
 abbrev Clear : Zone → Zone → Type 0
@@ -115,4 +115,4 @@ order_front xs ys order = record { by_left = pairs_front Left xs ys order.by_lef
 pub first_is_conflict : (zones : List Zone) (a b : Zone) → IsFirstConflict zones a b → ¬ IsClean zones
 first_is_conflict zones a b first clean =
     let across = pairs_across (λ x y. ¬ Conflicts x y) first.earlier (b ∷ first.later) (subst IsClean first.parts clean) in
-    All-head (λ y. ¬ Conflicts a y) b first.later (All-contains (λ x. All (λ y. ¬ Conflicts x y) (b ∷ first.later)) first.earlier a across first.farthest.stands) first.conflict
+    All-head (λ y. ¬ Conflicts a y) b first.later (All-contains (λ x. All (λ y. ¬ Conflicts x y) (b ∷ first.later)) first.earlier a across first.farthest.present) first.conflict

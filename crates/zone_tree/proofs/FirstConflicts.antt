@@ -20,7 +20,7 @@ use Rattle.zone_tree.proofs.Farthest.{IsFarthest, Meets, clear_push, order_front
 use Rattle.zone_tree.proofs.FirstFound.{meets}
 use Rattle.zone_tree.proofs.Sides.{earlier_edges}
 use Rattle.zone_tree.proofs.Looks.{last_front, none_late}
-use Rattle.zone_tree.proofs.Summaries.{join_none, none_behind}
+use Rattle.zone_tree.proofs.Summaries.{join_none, none_after}
 use Rattle.zone_tree.proofs.Meetings.{seen_around}
 use Rattle.zone_tree.proofs.Seams.{bit_where_clear, bit_where_clean}
 
@@ -43,7 +43,7 @@ contains_first z zones = (0, omega arith, refl)
 farthest_by : (z : Zone) (zones : List Zone) (found : Option Zone) → StandInOrder (z ∷ zones) → KeepsClearOfForward (z ∷ zones) → IsFarthest found zones → (z.forward ≡ true) ⊎ (z.forward ≡ false) → IsFarthest (option_or found (if z.forward then Some z else None)) (z ∷ zones)
 farthest_by z zones None order clear none (inl f) =
     subst (λ (o : Option Zone). IsFarthest o (z ∷ zones)) (sym (ap (λ (b : Bool). if b then Some z else None) f)) (record {
-      stands = contains_first z zones;
+      present = contains_first z zones;
       forward = f;
       farthest = All-cons (Ends z.right) z zones (λ _. before_irreflexive z.right) (All-weaker (λ o. ¬ IsForward o) (Ends z.right) (λ o n g. absurd (n g)) zones none);
     })
@@ -51,15 +51,15 @@ farthest_by z zones None order clear none (inr b) =
     subst (λ (o : Option Zone). IsFarthest o (z ∷ zones)) (sym (ap (λ (c : Bool). if c then Some z else None) b))
     (All-cons (λ o. ¬ IsForward o) z zones (both_ways z.forward b) none)
 farthest_by z zones (Some found) order clear is cases = record {
-  stands = Contains-append_right (z ∷ []) zones found is.stands;
+  present = Contains-append_right (z ∷ []) zones found is.present;
   forward = is.forward;
   farthest = All-cons (Ends found.right) z zones
       (λ f. not_both_ways z.right found.right (clear_ends_before z found
       (All-head HasOrderedEdges z zones order.edges)
-      (All-contains HasOrderedEdges zones found (All-tail HasOrderedEdges z zones order.edges) is.stands)
+      (All-contains HasOrderedEdges zones found (All-tail HasOrderedEdges z zones order.edges) is.present)
       f is.forward
-      (All-contains (Left z) zones found (pairs_head Left z zones order.by_left) is.stands)
-      (All-contains (Clear z) zones found (pairs_head Clear z zones clear) is.stands f)))
+      (All-contains (Left z) zones found (pairs_head Left z zones order.by_left) is.present)
+      (All-contains (Clear z) zones found (pairs_head Clear z zones clear) is.present f)))
       is.farthest;
 }
 
@@ -109,7 +109,7 @@ module _ (zones : List Zone) (second : Zone) (order : StandInOrder zones) (met :
 
   bit : (summary_of_zones (met.earlier ++ second ∷ [])).conflict ≡ true
   bit =
-      ap (λ (s : ZoneSummary). s.conflict) (sym (join_none (summary_of_zones (met.earlier ++ second ∷ []))) ∙ seen_around no_zones met.earlier second [] ∙ none_behind (join_zones (join_zones no_zones (summary_of_zones met.earlier)) (one_zone second)))
+      ap (λ (s : ZoneSummary). s.conflict) (sym (join_none (summary_of_zones (met.earlier ++ second ∷ []))) ∙ seen_around no_zones met.earlier second [] ∙ none_after (join_zones (join_zones no_zones (summary_of_zones met.earlier)) (one_zone second)))
       ∙ met.meets
 
   found_by : (found : Option Zone) → IsFarthest found met.earlier → Meets found second ⊎ (¬ Meets found second) → IsSomeAnd found (λ first. IsFirstConflict zones first second)

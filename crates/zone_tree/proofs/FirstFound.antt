@@ -43,16 +43,16 @@ met (Some found) front back z clear farthest c = (
 )
 
 -- the other zones of the list, one after another
-look_behind : (found : Option Zone) (front back : List Zone) (z : Zone) → KeepsClearOfForward front → IsFarthest found front → Meets found z ⊎ (¬ Meets found z) → (¬ Meets found z → KeepsClearOfForward (front ++ z ∷ back) ⊎ Found (front ++ z ∷ back)) → KeepsClearOfForward (front ++ z ∷ back) ⊎ Found (front ++ z ∷ back)
-look_behind found front back z clear farthest (inl c) go_on = inr (met found front back z clear farthest c)
-look_behind found front back z clear farthest (inr n) go_on = go_on n
+look_after : (found : Option Zone) (front back : List Zone) (z : Zone) → KeepsClearOfForward front → IsFarthest found front → Meets found z ⊎ (¬ Meets found z) → (¬ Meets found z → KeepsClearOfForward (front ++ z ∷ back) ⊎ Found (front ++ z ∷ back)) → KeepsClearOfForward (front ++ z ∷ back) ⊎ Found (front ++ z ∷ back)
+look_after found front back z clear farthest (inl c) go_on = inr (met found front back z clear farthest c)
+look_after found front back z clear farthest (inr n) go_on = go_on n
 
 look : (found : Option Zone) (front back : List Zone) → StandInOrder (front ++ back) → KeepsClearOfForward front → IsFarthest found front → KeepsClearOfForward (front ++ back) ⊎ Found (front ++ back)
 look found front [] order clear farthest = inl (subst KeepsClearOfForward (sym (append-nil front)) clear)
 look found front (z ∷ back) order clear farthest =
     let same : (front ++ z ∷ []) ++ back ≡ front ++ z ∷ back = append_assoc front (z ∷ []) back in
     let stand = subst StandInOrder (sym same) order in
-    look_behind found front back z clear farthest (meets found z)
+    look_after found front back z clear farthest (meets found z)
     (λ n. subst (λ zones. KeepsClearOfForward zones ⊎ Found zones) same
     (look (farther_of found z) (front ++ z ∷ []) back stand
     (clear_push found front z (order_front (front ++ z ∷ []) back stand) farthest n clear)

@@ -14,34 +14,28 @@ use Rattle.zone_tree.specs.Edge.{edge_before, ComesBefore}
 use Rattle.zone_tree.specs.Zone.{HasOrderedEdges}
 use Rattle.zone_tree.specs.Order.{IsByLeft, StandInOrder}
 use Rattle.zone_tree.specs.Summary.{one_zone, join_zones, summary_of_zones}
-use Rattle.zone_tree.specs.Look.{is_behind, begins_before, last_that, has_forward}
+use Rattle.zone_tree.specs.Look.{is_following, begins_before, last_that, has_forward}
 use Rattle.zone_tree.proofs.EdgeOrder.{before_transitive, before-false}
+use Rattle.zone_tree.proofs.Finds.{find_in_right}
 use Rattle.summary_tree.proofs.Lists.{find_none}
 use Rattle.zone_tree.proofs.Sides.{earlier_edges, later_edges}
 use Rattle.zone_tree.proofs.Summaries.{or_clear, one_forward, earliest_before}
 
--- a search over the zones around one
-find_around : (p : Zone → Bool) (xs : List Zone) (z : Zone) (ys : List Zone) (o : Option Zone) → find p xs ≡ o → find p (xs ++ z ∷ ys) ≡ option_or o (find p (z ∷ ys))
-find_around p xs z ys o e = find-append p xs (z ∷ ys) ∙ ap (λ found. option_or found (find p (z ∷ ys))) e
-
-find_in_right : (p : Zone → Bool) (xs : List Zone) (z : Zone) (ys : List Zone) → find p xs ≡ None → p z ≡ false → find p (xs ++ z ∷ ys) ≡ find p ys
-find_in_right p xs z ys e h = find_around p xs z ys None e ∙ ap (λ (b : Bool). cond b (Some z) (find p ys)) h
-
 -- the first zone after an edge
-pub first_here : (after : Option Edge) (xs : List Zone) (z : Zone) (ys : List Zone) → is_behind after z ≡ true → find (is_behind after) (xs ++ z ∷ ys) ≡ option_or (find (is_behind after) xs) (Some z)
+pub first_here : (after : Option Edge) (xs : List Zone) (z : Zone) (ys : List Zone) → is_following after z ≡ true → find (is_following after) (xs ++ z ∷ ys) ≡ option_or (find (is_following after) xs) (Some z)
 first_here after xs z ys h =
-    find-append (is_behind after) xs (z ∷ ys) ∙ ap (λ (b : Bool). option_or (find (is_behind after) xs) (cond b (Some z) (find (is_behind after) ys))) h
+    find-append (is_following after) xs (z ∷ ys) ∙ ap (λ (b : Bool). option_or (find (is_following after) xs) (cond b (Some z) (find (is_following after) ys))) h
 
-earlier_not_behind : (after : Option Edge) (xs : List Zone) (z : Zone) (ys : List Zone) → IsByLeft (xs ++ z ∷ ys) → is_behind after z ≡ false → All (λ x. is_behind after x ≡ false) xs
-earlier_not_behind None xs z ys by h = absurd (cc)
-earlier_not_behind (Some edge) xs z ys by h =
+earlier_not_after : (after : Option Edge) (xs : List Zone) (z : Zone) (ys : List Zone) → IsByLeft (xs ++ z ∷ ys) → is_following after z ≡ false → All (λ x. is_following after x ≡ false) xs
+earlier_not_after None xs z ys by h = absurd (cc)
+earlier_not_after (Some edge) xs z ys by h =
     All-weaker (λ x. ComesBefore x.left z.left) (λ x. edge_before edge x.left ≡ false)
     (λ x g. before-false edge x.left (λ f. both_ways (edge_before edge z.left) h (before_transitive edge x.left z.left f g)))
     xs (earlier_edges xs z ys by)
 
-pub first_right : (after : Option Edge) (xs : List Zone) (z : Zone) (ys : List Zone) → StandInOrder (xs ++ z ∷ ys) → is_behind after z ≡ false → find (is_behind after) (xs ++ z ∷ ys) ≡ find (is_behind after) ys
+pub first_right : (after : Option Edge) (xs : List Zone) (z : Zone) (ys : List Zone) → StandInOrder (xs ++ z ∷ ys) → is_following after z ≡ false → find (is_following after) (xs ++ z ∷ ys) ≡ find (is_following after) ys
 first_right after xs z ys order h =
-    find_in_right (is_behind after) xs z ys (find_none (is_behind after) xs (earlier_not_behind after xs z ys order.by_left h)) h
+    find_in_right (is_following after) xs z ys (find_none (is_following after) xs (earlier_not_after after xs z ys order.by_left h)) h
 
 -- where no zone is forward
 first_of_join : (z : Zone) (zones : List Zone) → has_forward (summary_of_zones (z ∷ zones)) ≡ has_forward (one_zone z) || has_forward (summary_of_zones zones)

@@ -5,7 +5,7 @@ use Rattle.zone_tree.specs.declared.zone.Zone.{Zone}
 use Rattle.zone_tree.specs.declared.summary.ZoneSummary.{ZoneSummary}
 use Rattle.zone_tree.specs.Summary.{one_zone, join_zones, summary_of_zones}
 use Rattle.zone_tree.specs.Look.{IsFirstMeeting, IsMetFirst}
-use Rattle.zone_tree.proofs.Summaries.{none_behind, join_assoc, summary_around}
+use Rattle.zone_tree.proofs.Summaries.{none_after, join_assoc, summary_around}
 
 -- the summary of those seen and then the zones around one
 pub seen_around : (seen : ZoneSummary) (xs : List Zone) (z : Zone) (ys : List Zone) → join_zones seen (summary_of_zones (xs ++ z ∷ ys)) ≡ join_zones (join_zones (join_zones seen (summary_of_zones xs)) (one_zone z)) (summary_of_zones ys)
@@ -37,7 +37,7 @@ meeting_right seen xs z ys w is = record {
 
 -- what is found, or not, in each part is what is found in the whole
 pub met_empty : (seen : ZoneSummary) → seen.conflict ≡ false → IsMetFirst seen [] None
-met_empty seen clear = ap (λ (s : ZoneSummary). s.conflict) (none_behind seen) ∙ clear
+met_empty seen clear = ap (λ (s : ZoneSummary). s.conflict) (none_after seen) ∙ clear
 
 pub met_none : (seen : ZoneSummary) (zones : List Zone) → (join_zones seen (summary_of_zones zones)).conflict ≡ false → IsMetFirst seen zones None
 met_none seen zones clear = clear

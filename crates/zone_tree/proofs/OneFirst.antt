@@ -24,14 +24,14 @@ record FirstAt (zones : List Zone) (n k : ℕ) (a b : Zone) : Type 0 where
 in_front : (zones front : List Zone) (y : Zone) (back : List Zone) (i : ℕ) (d : Zone) → zones ≡ front ++ y ∷ back → i < length front → get_or front i d ≡ get_or zones i d
 in_front zones front y back i d e lt = sym (ap (λ zs. get_or zs i d) e ∙ get_or_append_left front (y ∷ back) d i lt)
 
-first_by_places : (zones : List Zone) (a b : Zone) (is : IsFirstConflict zones a b) → FirstAt zones (length is.earlier) is.farthest.stands.0 a b
+first_by_places : (zones : List Zone) (a b : Zone) (is : IsFirstConflict zones a b) → FirstAt zones (length is.earlier) is.farthest.present.0 a b
 first_by_places zones a b is =
-    let stands = is.farthest.stands in
+    let present = is.farthest.present in
     let same = λ (i : ℕ) (d : Zone) (lt : i < length is.earlier). in_front zones is.earlier b is.later i d is.parts lt in
     record {
-      earlier = stands.1;
+      earlier = present.1;
       within = omega (arith, ap length is.parts, length-append is.earlier (b ∷ is.later));
-      first = λ d. sym (same stands.0 d stands.1) ∙ get_or_default is.earlier stands.0 d a stands.1 ∙ stands.2;
+      first = λ d. sym (same present.0 d present.1) ∙ get_or_default is.earlier present.0 d a present.1 ∙ present.2;
       second = λ d. ap (λ zs. get_or zs (length is.earlier) d) is.parts ∙ get_or_at is.earlier b is.later d (length is.earlier) refl;
       clear = λ i j d lt below f c.
           let e = sym (same i d (omega arith)) in
@@ -84,5 +84,5 @@ same_by zones n k m l a b c d order f g (inr (inr lt)) = absurd (not_earlier zon
 
 pub one_first : (zones : List Zone) (a b c d : Zone) → StandInOrder zones → IsFirstConflict zones a b → IsFirstConflict zones c d → (a ≡ c) × (b ≡ d)
 one_first zones a b c d order first second =
-    same_by zones (length first.earlier) first.farthest.stands.0 (length second.earlier) second.farthest.stands.0 a b c d order
+    same_by zones (length first.earlier) first.farthest.present.0 (length second.earlier) second.farthest.present.0 a b c d order
     (first_by_places zones a b first) (first_by_places zones c d second) (cases_order (length first.earlier) (length second.earlier))

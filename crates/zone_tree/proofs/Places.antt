@@ -1,7 +1,6 @@
 -- A zone's place among zones by left edge.
-use Rattle.std.proofs.Common.{◌≡◌, ◌↔◌, Bool, false, not, List, ◌∷◌, Option, Some, None, refl, sym}
+use Rattle.std.proofs.Common.{◌≡◌, ◌↔◌, not, List, ◌∷◌, Option, Some, None, refl, sym}
 use Rattle.std.specs.Prelude.{All, IsSome}
-use Rattle.std.specs.List.{find}
 use Rattle.std.specs.List.Sorted.{IsPermutation}
 use Rattle.std.proofs.lemmas.List.Elements.{All-cons, All-append, All-filter}
 use Rattle.summary_tree.proofs.Lists as lists
@@ -14,9 +13,6 @@ use Rattle.zone_tree.specs.Edge.{edge_before, same_edge}
 use Rattle.zone_tree.specs.Zone.{HasOrderedEdges}
 use Rattle.zone_tree.specs.Order.{StandInOrder, HasNoZoneAt, zones_below, zones_above, with_zone, zone_at, without_zone_at}
 use Rattle.zone_tree.proofs.EdgeOrder.{left_of, edge_order, edge_exact}
-
-pub none_found : {X : Type 0} (p : X → Bool) (xs : List X) → find p xs ≡ None → All (λ x. p x ≡ false) xs
-none_found p xs e = lists.none_found p xs e
 
 -- no zone is found exactly where none has that edge, and then there is none to leave out
 pub none_where : (left : Edge) (zones : List Zone) → (zone_at left zones ≡ None) ↔ HasNoZoneAt left zones

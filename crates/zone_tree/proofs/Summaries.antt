@@ -83,13 +83,13 @@ one_before_by a b same (inr (inr h)) = absurd (before_irreflexive b (sym (same b
 one_before : (a b : Edge) → ((e : Edge) → edge_before e a ≡ edge_before e b) → a ≡ b
 one_before a b same = one_before_by a b same (before_cases a b)
 
-one_behind_by : (a b : Edge) → ((e : Edge) → edge_before a e ≡ edge_before b e) → ComesBefore a b ⊎ ((a ≡ b) ⊎ ComesBefore b a) → a ≡ b
-one_behind_by a b same (inl h) = absurd (before_irreflexive b (sym (same b) ∙ h))
-one_behind_by a b same (inr (inl h)) = h
-one_behind_by a b same (inr (inr h)) = absurd (before_irreflexive a (same a ∙ h))
+one_after_by : (a b : Edge) → ((e : Edge) → edge_before a e ≡ edge_before b e) → ComesBefore a b ⊎ ((a ≡ b) ⊎ ComesBefore b a) → a ≡ b
+one_after_by a b same (inl h) = absurd (before_irreflexive b (sym (same b) ∙ h))
+one_after_by a b same (inr (inl h)) = h
+one_after_by a b same (inr (inr h)) = absurd (before_irreflexive a (same a ∙ h))
 
-one_behind : (a b : Edge) → ((e : Edge) → edge_before a e ≡ edge_before b e) → a ≡ b
-one_behind a b same = one_behind_by a b same (before_cases a b)
+one_following : (a b : Edge) → ((e : Edge) → edge_before a e ≡ edge_before b e) → a ≡ b
+one_following a b same = one_after_by a b same (before_cases a b)
 
 latest_assoc : (a b c : Edge) → later_edge (later_edge a b) c ≡ later_edge a (later_edge b c)
 latest_assoc a b c = one_before (later_edge (later_edge a b) c) (later_edge a (later_edge b c)) (λ e.
@@ -99,7 +99,7 @@ latest_assoc a b c = one_before (later_edge (later_edge a b) c) (later_edge a (l
     ∙ sym (before_latest e a (later_edge b c) ∙ ap (λ x. edge_before e a || x) (before_latest e b c)))
 
 earliest_assoc : (a b c : Edge) → earlier_edge (earlier_edge a b) c ≡ earlier_edge a (earlier_edge b c)
-earliest_assoc a b c = one_behind (earlier_edge (earlier_edge a b) c) (earlier_edge a (earlier_edge b c)) (λ e.
+earliest_assoc a b c = one_following (earlier_edge (earlier_edge a b) c) (earlier_edge a (earlier_edge b c)) (λ e.
     earliest_before e (earlier_edge a b) c
     ∙ ap (λ x. x || edge_before c e) (earliest_before e a b)
     ∙ or_assoc (edge_before a e) (edge_before b e) (edge_before c e)
@@ -224,14 +224,9 @@ backward_join z s =
 pub backward_first : (z : Zone) (s : ZoneSummary) → z.forward ≡ false → join_zones (one_zone z) s ≡ record { last_forward = s.last_forward; first_forward = s.first_forward; first_backward = earlier_edge z.right s.first_backward; conflict = s.conflict }
 backward_first z s f = ap (λ (o : ZoneSummary). join_zones o s) (one_backward z f) ∙ backward_join z s
 
--- a summary joined with that of no zones, on either side
-pub none_before : (s : ZoneSummary) → join_zones (summary_of_zones []) s ≡ s
+pub none_after : (s : ZoneSummary) → join_zones s (summary_of_zones []) ≡ s
 unfolding summary_of_zones
-none_before s = join_none s
-
-pub none_behind : (s : ZoneSummary) → join_zones s (summary_of_zones []) ≡ s
-unfolding summary_of_zones
-none_behind s = none_join s
+none_after s = none_join s
 
 pub summary_append : (xs ys : List Zone) → summary_of_zones (xs ++ ys) ≡ join_zones (summary_of_zones xs) (summary_of_zones ys)
 unfolding summary_of_zones

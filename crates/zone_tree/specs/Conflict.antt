@@ -15,7 +15,7 @@ KeepsClearOfForward zones = AllPairs (λ earlier later. IsForward earlier → ¬
 
 -- it is a forward zone of the list, and no forward zone there has a greater right edge
 pub record IsFarthestForward (zones : List Zone) (zone : Zone) : Type 0 where
-  pub stands : Contains zones zone
+  pub present : Contains zones zone
   pub forward : IsForward zone
   pub farthest : All (λ other. IsForward other → ¬ ComesBefore zone.right other.right) zones
 

@@ -9,13 +9,13 @@ use Rattle.zone_tree.specs.Edge.{edge_before}
 use Rattle.zone_tree.specs.Summary.{one_zone, join_zones, summary_of_zones}
 
 -- the test whether the zone's left edge comes after the optional edge; without an edge each does
-abbrev pub is_behind : Option Edge → Zone → Bool
-is_behind None z = true
-is_behind (Some edge) z = edge_before edge z.left
+abbrev pub is_following : Option Edge → Zone → Bool
+is_following None z = true
+is_following (Some edge) z = edge_before edge z.left
 
 -- the zones whose left edge comes after the optional edge; without an edge all of them
 abbrev pub zones_after : Option Edge → List Zone → List Zone
-zones_after after zones = filter (is_behind after) zones
+zones_after after zones = filter (is_following after) zones
 
 -- the test for a forward zone whose left edge comes before this one
 abbrev pub begins_before : Edge → Zone → Bool

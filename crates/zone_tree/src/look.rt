@@ -6,22 +6,16 @@ ghost use Rattle.zone_tree.specs.Order.{StandInOrder};
 ghost use Rattle.summary_tree.specs.Layers.{no_layers};
 ghost use Rattle.zone_tree.specs.Summary.{join_zones, summary_of_zones};
 ghost use Rattle.zone_tree.specs.Node.{IsTopZone};
-ghost use Rattle.zone_tree.specs.Look.{is_behind, begins_before, last_that, has_forward, IsMetFirst};
+ghost use Rattle.zone_tree.specs.Look.{is_following, begins_before, last_that, has_forward, IsMetFirst};
 
 use crate::summary::ZoneSummary;
 use crate::{Edge, Zone};
-use summary_tree::Summarizes;
+use summary_tree::{Subtree, Summarizes};
 
 /// A tree of zones by left edge, with their summaries.
 pub type Tree = summary_tree::Tree<Zone, ZoneSummary>;
 
 type Node = summary_tree::Node<Zone, ZoneSummary>;
-
-/// A tree, or a side of a node.
-#[derive(Clone, Copy)]
-pub struct Subtree<'z> {
-    pub tree: &'z Tree,
-}
 
 /// The top node, with what is known of its sides.
 #[tactic(auto, using(crate::proofs::Tops::top_of))]
@@ -43,8 +37,8 @@ pub fn conflict(tree: &Tree) -> bool
 }
 
 /// The summary of the earlier zones and the tree's zones after them.
-#[tactic(auto, using(crate::proofs::Summaries::none_behind))]
-pub fn behind(tree: &Tree, earlier: ZoneSummary) -> ZoneSummary
+#[tactic(auto, using(crate::proofs::Summaries::none_after))]
+pub fn following(tree: &Tree, earlier: ZoneSummary) -> ZoneSummary
     ensures { result ≡ join_zones earlier (summary_of_zones tree.now.items) }
 {
     match top(tree) {
@@ -62,8 +56,8 @@ impl ZoneSummary {
     }
 }
 
-fn is_behind(after: Option<Edge>, zone: &Zone) -> bool
-    ensures { result ≡ is_behind after zone.now }
+fn is_following(after: Option<Edge>, zone: &Zone) -> bool
+    ensures { result ≡ is_following after zone.now }
 {
     match after {
         Some(edge) => edge.comes_before(zone.left),
@@ -73,14 +67,14 @@ fn is_behind(after: Option<Edge>, zone: &Zone) -> bool
 
 /// The first zone whose left edge comes after the optional edge.
 #[tactic(auto, using(crate::proofs::Looks::first_here, crate::proofs::Looks::first_right))]
-pub fn first_after(part: Subtree, after: Option<Edge>) -> Option<Zone>
+pub fn first_after(part: Subtree<Zone, ZoneSummary>, after: Option<Edge>) -> Option<Zone>
     requires { StandInOrder part.tree.now.items }
-    ensures { result ≡ find (is_behind after) part.entry.tree.now.items }
+    ensures { result ≡ find (is_following after) part.entry.tree.now.items }
 {
     let Some(node) = top(part.tree) else {
         return None;
     };
-    if !is_behind(after, &node.item) {
+    if !is_following(after, &node.item) {
         return first_after(Subtree { tree: &node.right }, after);
     }
     first_after(Subtree { tree: &node.left }, after).or(Some(node.item))
@@ -88,7 +82,7 @@ pub fn first_after(part: Subtree, after: Option<Edge>) -> Option<Zone>
 
 /// The last forward zone whose left edge comes before that one.
 #[tactic(auto, using(crate::proofs::Looks::last_empty, crate::proofs::Looks::none_begins, crate::proofs::Looks::last_in_right, crate::proofs::Looks::last_here, crate::proofs::Looks::last_in_left, crate::proofs::Looks::last_left))]
-pub fn last_forward_before(part: Subtree, edge: Edge) -> Option<Zone>
+pub fn last_forward_before(part: Subtree<Zone, ZoneSummary>, edge: Edge) -> Option<Zone>
     requires { StandInOrder part.tree.now.items }
     ensures { result ≡ last_that (begins_before edge) part.entry.tree.now.items }
 {
@@ -112,7 +106,7 @@ pub fn last_forward_before(part: Subtree, edge: Edge) -> Option<Zone>
 
 /// The first zone of the tree that conflicts with a forward one before it, in the tree or among those seen before.
 #[tactic(auto, using(crate::proofs::Meetings::met_empty, crate::proofs::Meetings::met_none, crate::proofs::Meetings::met_left, crate::proofs::Meetings::met_here, crate::proofs::Meetings::met_right))]
-pub fn first_meeting(part: Subtree, seen: ZoneSummary) -> Option<Zone>
+pub fn first_meeting(part: Subtree<Zone, ZoneSummary>, seen: ZoneSummary) -> Option<Zone>
     requires { seen.conflict ≡ false }
     ensures { IsMetFirst seen part.entry.tree.now.items result }
 {
@@ -122,7 +116,7 @@ pub fn first_meeting(part: Subtree, seen: ZoneSummary) -> Option<Zone>
     if !seen.join(&node.summary).conflict {
         return None;
     }
-    let earlier = behind(&node.left, seen);
+    let earlier = following(&node.left, seen);
     if earlier.conflict {
         return first_meeting(Subtree { tree: &node.left }, seen);
     }

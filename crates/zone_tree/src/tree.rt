@@ -7,13 +7,12 @@ ghost use Rattle.zone_tree.specs.Conflict.{IsClean, IsFirstConflict};
 ghost use Rattle.zone_tree.specs.Order.{StandInOrder, HasNoZoneAt, with_zone, without_zone_at, zone_at};
 ghost use Rattle.zone_tree.specs.Digits.{binary_digits};
 
-use crate::look::{self, Subtree};
 use crate::summary::ZoneSummary;
-use crate::{Edge, Zone, Zones};
+use crate::{Edge, Zone, Zones, look};
 use intervals::Memory;
 use std::alloc::Global;
 use std::marker::Model;
-use summary_tree::{Summarizes, SummaryTree};
+use summary_tree::{Subtree, Summarizes, SummaryTree};
 
 /// Zones of different left edges, and reserved places for more.
 #[derive(Drop)]
@@ -85,7 +84,7 @@ impl ZoneTree {
         Zones::over(self.all().tree)
     }
 
-    fn all(&self) -> Subtree<'_>
+    fn all(&self) -> Subtree<'_, Zone, ZoneSummary>
         ensures zones { result.tree.now.items ≡ self.now.zones }
         ensures order { StandInOrder self.now.zones }
     {
@@ -146,12 +145,12 @@ impl ZoneTree {
     }
 
     /// Whether no two conflict of these zones and `first`, which comes before them.
-    pub fn clean_behind(&self, first: &Zone) -> bool
+    pub fn clean_after(&self, first: &Zone) -> bool
         requires edges { HasOrderedEdges first.now }
         requires before { All (λ z. ComesBefore first.now.left z.left) self.now.zones }
         ensures { IsTrue result ↔ IsClean (first.now ∷ self.now.zones) }
     {
-        !look::behind(self.all().tree, ZoneSummary::of_one(first)).conflict
+        !look::following(self.all().tree, ZoneSummary::of_one(first)).conflict
     }
 
     /// The first conflict: the second zone is the first by left edge that conflicts with an earlier forward one,
@@ -171,7 +170,7 @@ impl ZoneTree {
     }
 
     /// The first conflict of these zones and `first`, which comes before them.
-    pub fn first_conflict_behind(&self, first: &Zone) -> Option<(Zone, Zone)>
+    pub fn first_conflict_after(&self, first: &Zone) -> Option<(Zone, Zone)>
         requires edges { HasOrderedEdges first.now }
         requires before { All (λ z. ComesBefore first.now.left z.left) self.now.zones }
         ensures first { IfSome result (λ pair. IsFirstConflict (first.now ∷ self.now.zones) pair.0 pair.1) }

@@ -4,9 +4,10 @@ ghost use Rattle.std.specs.Prelude.{◌≡◌};
 ghost use Rattle.std.specs.Iterator.{YieldsFirst, item_count};
 ghost use Rattle.zone_tree.specs.Order.{StandInOrder};
 
-use crate::look::{Subtree, Tree, first_after};
+use crate::look::{Tree, first_after};
 use crate::{Edge, Zone};
 use std::marker::Model;
+use summary_tree::Subtree;
 
 /// The zones of a tree that are still to come, by left edge: those after the last one that came.
 #[derive(Drop)]
@@ -30,7 +31,7 @@ impl<'z> Model for Zones<'z> {
 }
 
 impl<'z> Zones<'z> {
-    #[tactic(auto, using(crate::proofs::Items::all_behind))]
+    #[tactic(auto, using(crate::proofs::Items::all_following))]
     pub(crate) fn over(tree: &'z Tree) -> Self
         requires { StandInOrder tree.now.items }
         ensures { result ≡ tree.now.items }

@@ -7,15 +7,17 @@ use Rattle.std.proofs.lemmas.List.Sorted.{length_permutation}
 use Rattle.intervals.specs.declared.operation.Op.{Op}
 use Rattle.intervals.specs.declared.operation.Value.{Value}
 use Rattle.intervals.specs.declared.edit.Edit.{Edit}
+use Rattle.intervals.specs.declared.target.Target.{Target}
 use Rattle.intervals.specs.Operation.{IsWrite, is_write, value_of, writes}
 use Rattle.intervals.specs.Edit.{new_op, edited, edit_id, found_by}
 use Rattle.intervals.specs.Refusal.{reply_to}
 use Rattle.intervals.specs.declared.claim.Kind.TheVariants.{Atomic}
 use Rattle.intervals.specs.Table.{TableModel, prepared_after}
+use Rattle.intervals.specs.Target.{IsTargetOf}
 use Rattle.intervals.specs.Terms.{ClaimModel}
 use Rattle.zone_tree.specs.declared.zone.Zone.{Zone}
-use Rattle.stretch_tree.specs.declared.stretch.Stretch.{Stretch}
-use Rattle.stretch_tree.specs.Order.{StretchContents as Stretches}
+use Rattle.zone_tree.specs.declared.stretch.Stretch.{Stretch}
+use Rattle.zone_tree.specs.StretchOrder.{StretchContents as Stretches}
 use Rattle.zone_tree.specs.Order.{ZoneContents as Zones, StandInOrder}
 use Rattle.zones.specs.declared.index.Members.{Members}
 use Rattle.zones.specs.declared.records.Records.{Records}
@@ -32,11 +34,11 @@ use Rattle.zones.proofs.Edited.{apart_kept, apart_none, change_of_edit}
 use Rattle.zones.proofs.InTree.{zones_each_once}
 use Rattle.zones.proofs.Lengths.{kept_length}
 use Rattle.zones.proofs.Moved.{can_move, keeps_room, moved_zoned, zone_gone}
-use Rattle.zones.proofs.Stretches.{moved_stretched, stretch_stands, stretched_none, stretches_are_new}
+use Rattle.zones.proofs.Stretches.{moved_stretched, stretch_present, stretched_none, stretches_are_new}
 
 -- without operations the tree has no zones
 zoned_none : AreZoned [] []
-zoned_none = record { each = λ v (w, is). absurd (in_none w is.stands); only = λ z h. absurd (in_none z h) }
+zoned_none = record { each = λ v (w, is). absurd (in_none w is.present); only = λ z h. absurd (in_none z h) }
 
 -- a tree of a register has as many zones as there are writes
 pub as_many_writes : (claim : ClaimModel) (ops : List Op) (tree : List Zone) → AreManyWriters claim ops → StandInOrder tree → AreZoned ops tree → length tree ≡ length (writes ops)
@@ -130,107 +132,110 @@ module _ (members : Members) (records : Records) (zones : Zones) (stretches : St
       by_cases None e = omega (arith, spare, kept e)
       by_cases (Some op) e = omega (arith, (room_for new is (ap is_some e)).1, more, most)
 
-module _ (claim : ClaimModel) (ops : List Op) (edit : Edit) (apart : AreManyWriters claim ops) (accepted : reply_to claim ops edit ≡ None)
-    (old new : Option Op) (old_is : old ≡ judged_part (found_by ops (edit_id edit))) (new_is : new ≡ judged_part (new_op ops edit))
-    (after : List Op) (after_is : after ≡ edited ops edit) where
+-- what is asked of an edit: nothing refuses it, the target is its own, and its new operation is prepared
+pub record IsAsked (claim : ClaimModel) (ops : List Op) (prepared : Option Op) (edit : Edit) (target : Target) : Type 0 where
+  pub accepted : reply_to claim ops edit ≡ None
+  pub target_is : IsTargetOf ops edit target
+  pub held : IfSome target.new (λ op. prepared ≡ Some op)
+
+-- the value of what comes, where it is another than that of what goes
+abbrev pub came : Option Op → Option Op → Option Value
+came old new = other_value (value_in old) (value_in new)
+
+-- an edit that nothing refuses, of many writers: `old` and `new` are the optional judged operations that go and that
+-- come, and `after` are the operations after it
+pub record IsMade (claim : ClaimModel) (ops : List Op) (edit : Edit) (old new : Option Op) (after : List Op) : Type 0 where
+  pub apart : AreManyWriters claim ops
+  pub accepted : reply_to claim ops edit ≡ None
+  pub goes : old ≡ judged_part (found_by ops (edit_id edit))
+  pub comes : new ≡ judged_part (new_op ops edit)
+  pub made : after ≡ edited ops edit
+
+module _ {claim : ClaimModel} {ops : List Op} {edit : Edit} {old new : Option Op} {after : List Op} (is_made : IsMade claim ops edit old new after) where
+  apart : AreManyWriters claim ops
+  apart = is_made.apart
+
   pub apart_after : AreManyWriters claim after
-  apart_after = subst (AreManyWriters claim) (sym after_is) (apart_kept claim ops edit apart accepted)
+  apart_after = subst (AreManyWriters claim) (sym is_made.made) (apart_kept claim ops edit apart is_made.accepted)
 
   pub change_is : IsChange ops old new after
   change_is =
-      subst (λ (o : Option Op). IsChange ops o new after) (sym old_is)
-      (subst (λ (n : Option Op). IsChange ops (judged_part (found_by ops (edit_id edit))) n after) (sym new_is)
-      (subst (λ (l : List Op). IsChange ops (judged_part (found_by ops (edit_id edit))) (judged_part (new_op ops edit)) l) (sym after_is) (change_of_edit claim ops edit apart accepted)))
+      subst (λ (o : Option Op). IsChange ops o new after) (sym is_made.goes)
+      (subst (λ (n : Option Op). IsChange ops (judged_part (found_by ops (edit_id edit))) n after) (sym is_made.comes)
+      (subst (λ (l : List Op). IsChange ops (judged_part (found_by ops (edit_id edit))) (judged_part (new_op ops edit)) l) (sym is_made.made) (change_of_edit claim ops edit apart is_made.accepted)))
 
-  module _ (first second : Option Value) (first_is : first ≡ value_in old) (second_is : second ≡ other_value first (value_in new)) where
-    module _ (earlier later : Option Zone × Option Zone) (tree : Zones) (zoned : AreZoned ops tree.zones) (earlier_is : AreZonesAt ops first second earlier) (later_is : AreZonesAt after first second later) where
-      at_values : (list : List Op) (found : Option Zone × Option Zone) → AreZonesAt list first second found → AreZonesAt list (value_in old) (other_value (value_in old) (value_in new)) found
-      at_values list found is =
-          subst (λ (u : Option Value). AreZonesAt list u (other_value u (value_in new)) found) first_is
-          (subst (λ (u : Option Value). AreZonesAt list first u found) second_is is)
+  module _ (earlier later : Option Zone × Option Zone) (tree : Zones) (zoned : AreZoned ops tree.zones) (earlier_is : AreZonesAt ops (value_in old) (came old new) earlier) (later_is : AreZonesAt after (value_in old) (came old new) later) where
+    pub can_exchange_zones : (IsSome new → 2 ≤ tree.free) → CanExchange tree earlier later
+    can_exchange_zones enough gone come changes =
+        can_move ops old new after change_is apart.kept.moments apart_after.kept.moments tree.zones zoned earlier later gone come changes earlier_is later_is tree.free tree.steps enough
 
-      pub can_exchange_zones : (IsSome new → 2 ≤ tree.free) → CanExchange tree earlier later
-      can_exchange_zones enough gone come changes =
-          can_move ops old new after change_is apart.kept.moments apart_after.kept.moments tree.zones zoned earlier later gone come changes
-          (at_values ops earlier earlier_is) (at_values after later later_is) tree.free tree.steps enough
+    pub zones_need_no_room : new ≡ None → NeedsNoRoom tree.zones earlier later
+    zones_need_no_room none gone come changes =
+        keeps_room ops old new after change_is apart.kept.moments apart_after.kept.moments tree.zones zoned earlier later gone come changes earlier_is later_is none
 
-      pub zones_need_no_room : new ≡ None → NeedsNoRoom tree.zones earlier later
-      zones_need_no_room none gone come changes =
-          keeps_room ops old new after change_is apart.kept.moments apart_after.kept.moments tree.zones zoned earlier later gone come changes
-          (at_values ops earlier earlier_is) (at_values after later later_is) none
+    pub zoned_after : (result : List Zone) → AreExchanged zone_shape earlier later tree.zones result → AreZoned after result
+    zoned_after result is =
+        subst (AreZoned after) (sym is.moves)
+        (moved_zoned ops old new after change_is apart.kept.moments apart_after.kept.moments tree.zones zoned earlier later is.gone is.come is.changes earlier_is later_is)
 
-      pub zoned_after : (result : List Zone) → AreExchanged zone_shape earlier later tree.zones result → AreZoned after result
-      zoned_after result is =
-          subst (AreZoned after) (sym is.moves)
-          (moved_zoned ops old new after change_is apart.kept.moments apart_after.kept.moments tree.zones zoned earlier later is.gone is.come is.changes
-          (at_values ops earlier earlier_is) (at_values after later later_is))
+    -- where nothing comes there are no more zones than before
+    pub no_more_zones : new ≡ None → (result : List Zone) → AreExchanged zone_shape earlier later tree.zones result → length result ≤ length tree.zones
+    no_more_zones none result is = kept_length is.gone is.come tree.zones result (zones_need_no_room none is.gone is.come is.changes) is.moves
 
-      -- where nothing comes there are no more zones than before
-      pub no_more_zones : new ≡ None → (result : List Zone) → AreExchanged zone_shape earlier later tree.zones result → length result ≤ length tree.zones
-      no_more_zones none result is = kept_length is.gone is.come tree.zones result (zones_need_no_room none is.gone is.come is.changes) is.moves
+    pub fewer_zones : new ≡ None → (w : Op) → old ≡ Some w → IsWrite w → (result : List Zone) → AreExchanged zone_shape earlier later tree.zones result → length result + 1 ≤ length tree.zones
+    fewer_zones none w e write result is =
+        zone_gone ops old new after change_is tree.zones zoned earlier later earlier_is later_is none w e write is.gone is.come is.changes
+        (zones_need_no_room none is.gone is.come is.changes).other result is.moves
 
-      pub fewer_zones : new ≡ None → (w : Op) → old ≡ Some w → IsWrite w → (result : List Zone) → AreExchanged zone_shape earlier later tree.zones result → length result + 1 ≤ length tree.zones
-      fewer_zones none w e write result is =
-          zone_gone ops old new after change_is tree.zones zoned earlier later (at_values ops earlier earlier_is) (at_values after later later_is) none w e write is.gone is.come is.changes
-          (zones_need_no_room none is.gone is.come is.changes).other result is.moves
+  module _ (earlier later : Option Stretch × Option Stretch) (tree : Stretches) (stretched : AreStretched claim ops tree.stretches)
+      (earlier_is : AreStretchesAt claim ops (value_in old) (came old new) earlier) (later_is : AreStretchesAt claim after (value_in old) (came old new) later) where
+    pub can_exchange_stretches : CanStretch tree.stretches earlier later
+    can_exchange_stretches gone come changes =
+        stretches_are_new claim ops old new after change_is apart.kept.moments apart_after.kept.moments tree.stretches stretched earlier later earlier_is later_is gone come changes
 
-    module _ (earlier later : Option Stretch × Option Stretch) (tree : Stretches) (stretched : AreStretched claim ops tree.stretches)
-        (earlier_is : AreStretchesAt claim ops first second earlier) (later_is : AreStretchesAt claim after first second later) where
-      stretches_at : (list : List Op) (found : Option Stretch × Option Stretch) → AreStretchesAt claim list first second found → AreStretchesAt claim list (value_in old) (other_value (value_in old) (value_in new)) found
-      stretches_at list found is =
-          subst (λ (u : Option Value). AreStretchesAt claim list u (other_value u (value_in new)) found) first_is
-          (subst (λ (u : Option Value). AreStretchesAt claim list first u found) second_is is)
+    pub stretched_after : (result : List Stretch) → AreExchanged stretch_shape earlier later tree.stretches result → AreStretched claim after result
+    stretched_after result is =
+        subst (AreStretched claim after) (sym is.moves)
+        (moved_stretched claim ops old new after change_is apart.kept.moments apart_after.kept.moments tree.stretches stretched earlier later earlier_is later_is is.gone is.come is.changes)
 
-      pub can_exchange_stretches : CanStretch tree.stretches earlier later
-      can_exchange_stretches gone come changes =
-          stretches_are_new claim ops old new after change_is apart.kept.moments apart_after.kept.moments tree.stretches stretched earlier later
-          (stretches_at ops earlier earlier_is) (stretches_at after later later_is) gone come changes
-
-      pub stretched_after : (result : List Stretch) → AreExchanged stretch_shape earlier later tree.stretches result → AreStretched claim after result
-      stretched_after result is =
-          subst (AreStretched claim after) (sym is.moves)
-          (moved_stretched claim ops old new after change_is apart.kept.moments apart_after.kept.moments tree.stretches stretched earlier later
-          (stretches_at ops earlier earlier_is) (stretches_at after later later_is) is.gone is.come is.changes)
-
-      -- where nothing comes there is no second stretch
-      pub no_second : new ≡ None → IsNone later.1
-      no_second none = second_none (value_in old) (value_in new) (ap value_in none) later.1 (stretches_at after later later_is).other
-        where
-          second_none : (f s : Option Value) → s ≡ None → (found : Option Stretch) → IsStretchAtSome claim after (other_value f s) found → IsNone found
-          second_none None s e found is = (let at : found ≡ None = subst (λ (u : Option Value). IsStretchAtSome claim after u found) e is in ap is_some at)
-          second_none (Some u) None e found is = ap is_some is
-          second_none (Some u) (Some v) e found is = absurd (cc)
-
-      pub stands_for : new ≡ None → ((op : Op) → old ≡ Some op → ¬ IsWrite op) → IsSome later.0 → IsThere tree.stretches earlier.0
-      stands_for none reads =
-          stretch_stands claim ops old new after change_is apart.kept.moments apart_after.kept.moments tree.stretches stretched earlier later
-          (stretches_at ops earlier earlier_is) (stretches_at after later later_is) none reads
-
-    -- where nothing comes each stretch that comes takes the place of one that goes, or that of a write
-    pub room_left : new ≡ None
-        → (earlier later : Option Zone × Option Zone) (zones : Zones) → AreZoned ops zones.zones → AreZonesAt ops first second earlier → AreZonesAt after first second later
-        → (result : List Zone) → AreExchanged zone_shape earlier later zones.zones result
-        → (was is : Option Stretch × Option Stretch) (stretches : Stretches) → AreStretched claim ops stretches.stretches → AreStretchesAt claim ops first second was → AreStretchesAt claim after first second is
-        → (free : ℕ) → (IsNone is.1 → stretches.free ≤ free + 1) → (IsNone is.1 → (IsSome is.0 → IsThere stretches.stretches was.0) → stretches.free ≤ free)
-        → length result + stretches.free ≤ length zones.zones + free
-    room_left none earlier later zones zoned earlier_is later_is result exchanged was is stretches stretched was_is is_is free one kept = by_old old refl
+    -- where nothing comes there is no second stretch
+    pub no_second : new ≡ None → IsNone later.1
+    no_second none = second_none (value_in old) (value_in new) (ap value_in none) later.1 later_is.other
       where
-        second_none : IsNone is.1
-        second_none = no_second was is stretches stretched was_is is_is none
+        second_none : (f s : Option Value) → s ≡ None → (found : Option Stretch) → IsStretchAtSome claim after (other_value f s) found → IsNone found
+        second_none None s e found is = (let at : found ≡ None = subst (λ (u : Option Value). IsStretchAtSome claim after u found) e is in ap is_some at)
+        second_none (Some u) None e found is = ap is_some is
+        second_none (Some u) (Some v) e found is = absurd (cc)
 
-        where_reads : ((op : Op) → old ≡ Some op → ¬ IsWrite op) → length result + stretches.free ≤ length zones.zones + free
-        where_reads reads =
-            omega (
-              arith,
-              no_more_zones earlier later zones zoned earlier_is later_is none result exchanged,
-              kept second_none (stands_for was is stretches stretched was_is is_is none reads),
-            )
+    pub present_for : new ≡ None → ((op : Op) → old ≡ Some op → ¬ IsWrite op) → IsSome later.0 → IsThere tree.stretches earlier.0
+    present_for none reads =
+        stretch_present claim ops old new after change_is apart.kept.moments apart_after.kept.moments tree.stretches stretched earlier later earlier_is later_is none reads
 
-        by_write : (op : Op) → old ≡ Some op → (t : Bool) → is_write op ≡ t → length result + stretches.free ≤ length zones.zones + free
-        by_write op e true t = omega (arith, fewer_zones earlier later zones zoned earlier_is later_is none op e t result exchanged, one second_none)
-        by_write op e false t =
-            where_reads (λ x f write. let same : op ≡ x = let both : Some op ≡ Some x = sym e ∙ f in cc in both_ways (is_write op) t (subst IsWrite (sym same) write))
+  -- where nothing comes each stretch that comes takes the place of one that goes, or that of a write
+  pub room_left : new ≡ None
+      → (earlier later : Option Zone × Option Zone) (zones : Zones) → AreZoned ops zones.zones → AreZonesAt ops (value_in old) (came old new) earlier → AreZonesAt after (value_in old) (came old new) later
+      → (result : List Zone) → AreExchanged zone_shape earlier later zones.zones result
+      → (was is : Option Stretch × Option Stretch) (stretches : Stretches) → AreStretched claim ops stretches.stretches → AreStretchesAt claim ops (value_in old) (came old new) was → AreStretchesAt claim after (value_in old) (came old new) is
+      → (free : ℕ) → (IsNone is.1 → stretches.free ≤ free + 1) → (IsNone is.1 → (IsSome is.0 → IsThere stretches.stretches was.0) → stretches.free ≤ free)
+      → length result + stretches.free ≤ length zones.zones + free
+  room_left none earlier later zones zoned earlier_is later_is result exchanged was is stretches stretched was_is is_is free one kept = by_old old refl
+    where
+      second_none : IsNone is.1
+      second_none = no_second was is stretches stretched was_is is_is none
 
-        by_old : (o : Option Op) → old ≡ o → length result + stretches.free ≤ length zones.zones + free
-        by_old None e = where_reads (λ x f. absurd (let g : None ≡ Some x = sym e ∙ f in cc))
-        by_old (Some op) e = by_write op e (is_write op) refl
+      where_reads : ((op : Op) → old ≡ Some op → ¬ IsWrite op) → length result + stretches.free ≤ length zones.zones + free
+      where_reads reads =
+          omega (
+            arith,
+            no_more_zones earlier later zones zoned earlier_is later_is none result exchanged,
+            kept second_none (present_for was is stretches stretched was_is is_is none reads),
+          )
+
+      by_write : (op : Op) → old ≡ Some op → (t : Bool) → is_write op ≡ t → length result + stretches.free ≤ length zones.zones + free
+      by_write op e true t = omega (arith, fewer_zones earlier later zones zoned earlier_is later_is none op e t result exchanged, one second_none)
+      by_write op e false t =
+          where_reads (λ x f write. let same : op ≡ x = let both : Some op ≡ Some x = sym e ∙ f in cc in both_ways (is_write op) t (subst IsWrite (sym same) write))
+
+      by_old : (o : Option Op) → old ≡ o → length result + stretches.free ≤ length zones.zones + free
+      by_old None e = where_reads (λ x f. absurd (let g : None ≡ Some x = sym e ∙ f in cc))
+      by_old (Some op) e = by_write op e (is_write op) refl

@@ -18,7 +18,7 @@ use Rattle.zones.specs.Cluster.{Interval, edge_of_end, interval_of, initial_span
 use Rattle.zones.specs.Crossing.{value_at, StandsJudged, HasEndedBefore, IsCrossing, HasLeastEnd, HasGreatestBegin, AreExtremes}
 use Rattle.zones.proofs.EdgeOrder.{AtMost, at_most_itself, at_most_transitive, at_most_both, before_all, before_not_after, not_after_before, not_both_ways, earlier-left, earlier-right, earlier-cases, later-left, later-right, later-cases}
 use Rattle.zones.proofs.Judged.{is_judged, judged_write}
-use Rattle.zones.proofs.Members.{Decides-same_value, value_cases, here, there, in_none, contains_cases, kept, kept_stands, all_from, mapped, pair_of, pairs_mapped}
+use Rattle.zones.proofs.Members.{Decides-same_value, value_cases, here, there, in_none, contains_cases, kept, kept_present, all_from, mapped, pair_of, pairs_mapped}
 
 -- the least end and the greatest beginning of intervals
 pub least-bound : (spans : List Interval) (s : Interval) → Contains spans s → AtMost (least_end_in spans) s.end
@@ -109,17 +109,17 @@ module _ (initial : Value) (ops : List Op) where
   in_cluster : (v : Value) (op : Op) → IsMember v op → Contains (cluster_of ops v) op
   in_cluster v op (h, e) = kept (has_value v) (judged ops) op h ((Decides-same_value (value_of op.act) v).1 e)
 
-  span_stands : (v : Value) (op : Op) → IsMember v op → Contains (spans_of initial ops v) (interval_of op)
-  span_stands v op h =
+  span_present : (v : Value) (op : Op) → IsMember v op → Contains (spans_of initial ops v) (interval_of op)
+  span_present v op h =
       let k = mapped interval_of (cluster_of ops v) op (in_cluster v op h) in
       cond_both (same_value initial v) _ _ (λ (l : List Interval). Contains l (interval_of op)) (λ t. there initial_span (map interval_of (cluster_of ops v)) (interval_of op) k) (λ f. k)
 
   -- the least end is at most each member's end
   pub least_at_most : (v : Value) (op : Op) → IsMember v op → AtMost (least v) (edge_of_end op.end)
-  least_at_most v op h = least-bound (spans_of initial ops v) (interval_of op) (span_stands v op h)
+  least_at_most v op h = least-bound (spans_of initial ops v) (interval_of op) (span_present v op h)
 
   pub greatest_at_least : (v : Value) (op : Op) → IsMember v op → AtMost (At op.begin) (greatest v)
-  greatest_at_least v op h = greatest-bound (spans_of initial ops v) (interval_of op) (span_stands v op h)
+  greatest_at_least v op h = greatest-bound (spans_of initial ops v) (interval_of op) (span_present v op h)
 
   -- an interval of a cluster is the initial write's or a member's
   abbrev IsSpanOf : Value → Interval → Type 0
@@ -134,7 +134,7 @@ module _ (initial : Value) (ops : List Op) where
       by_cases (inr h) rest = rest h
 
   pub member_of : (v : Value) (op : Op) → Contains (cluster_of ops v) op → IsMember v op
-  member_of v op h = let k = kept_stands (has_value v) (judged ops) op h in (k.0, (Decides-same_value (value_of op.act) v).0 k.1)
+  member_of v op h = let k = kept_present (has_value v) (judged ops) op h in (k.0, (Decides-same_value (value_of op.act) v).0 k.1)
 
   span_from : (v : Value) (s : Interval) → Contains (spans_of initial ops v) s → IsSpanOf v s
   span_from v s = cond_both (same_value initial v) _ _ (λ (l : List Interval). Contains l s → IsSpanOf v s) with_initial (λ f h. inr (from_map v (cluster_of ops v) s (member_of v) h))
@@ -188,12 +188,12 @@ module _ (initial : Value) (ops : List Op) where
       by_cases (inl e) = inl e
       by_cases (inr (op, h, e)) = inr (op, in_cluster v op h, e)
 
-  initial_stands : Contains (spans_of initial ops initial) initial_span
-  initial_stands = cond_both (same_value initial initial) _ _ (λ (l : List Interval). Contains l initial_span) (λ t. here initial_span _) (λ f. absurd (both_ways (same_value initial initial) f ((Decides-same_value initial initial).1 refl)))
+  initial_present : Contains (spans_of initial ops initial) initial_span
+  initial_present = cond_both (same_value initial initial) _ _ (λ (l : List Interval). Contains l initial_span) (λ t. here initial_span _) (λ f. absurd (both_ways (same_value initial initial) f ((Decides-same_value initial initial).1 refl)))
 
   -- the initial write ends before every moment
   pub least_initial : least initial ≡ Before
-  least_initial = at_most_both (least initial) Before (least-bound (spans_of initial ops initial) initial_span initial_stands) (before_all (least initial))
+  least_initial = at_most_both (least initial) Before (least-bound (spans_of initial ops initial) initial_span initial_present) (before_all (least initial))
 
   -- the zone of the initial value begins before every moment
   pub left_initial : left initial ≡ Before
@@ -201,7 +201,7 @@ module _ (initial : Value) (ops : List Op) where
       at_most_both (left initial) Before
       (at_most_transitive (left initial) (least initial) Before
       (left-least (least initial) (greatest initial) initial)
-      (least-bound (spans_of initial ops initial) initial_span initial_stands))
+      (least-bound (spans_of initial ops initial) initial_span initial_present))
       (before_all (left initial))
 
   pub left_at_most_least : (v : Value) → AtMost (left v) (least v)
@@ -259,7 +259,7 @@ module _ (initial : Value) (ops : List Op) where
       by_cases (inl e) = e
       by_cases (inr n) =
           let apart : a ≢ b = λ e. n (sym ea ∙ (ap (λ (x : Op). value_of x.act) e ∙ eb)) in
-          absurd (pair_of ShareNoMoment (λ x y s m p q. s m q p) ops moments a b (kept_stands _ ops a ha).0 (kept_stands _ ops b hb).0 apart m ma mb)
+          absurd (pair_of ShareNoMoment (λ x y s m p q. s m q p) ops moments a b (kept_present _ ops a ha).0 (kept_present _ ops b hb).0 apart m ma mb)
   settle moments u v Never i j = absurd i
 
   -- where the least end of one cluster comes before the greatest beginning of another, operations have these edges
@@ -278,9 +278,9 @@ module _ (initial : Value) (ops : List Op) where
       by_greatest (inl e) = absurd (before_all (least u) (subst (λ (x : Edge). ComesBefore (least u) x) e p))
       by_greatest (inr (b, h, e)) = (b, (h, e))
 
-  least_stands : (u : Value) (a : Option Op) → HasLeastEnd initial ops u a → StandsJudged ops a × (value_at initial a ≡ u)
-  least_stands u None h = (tt, sym h)
-  least_stands u (Some a) h = member_of u a h.0
+  least_present : (u : Value) (a : Option Op) → HasLeastEnd initial ops u a → StandsJudged ops a × (value_at initial a ≡ u)
+  least_present u None h = (tt, sym h)
+  least_present u (Some a) h = member_of u a h.0
 
   has_ended : (u v : Value) (a : Option Op) (b : Op) → ComesBefore (least u) (greatest v) → HasLeastEnd initial ops u a → HasGreatestBegin initial ops v b → HasEndedBefore a b
   has_ended u v None b p h k = tt
@@ -291,15 +291,15 @@ module _ (initial : Value) (ops : List Op) where
   pub extremes_cross : (u v : Value) (a : Option Op) (b : Op) (c : Option Op) (d : Op) → u ≢ v → Conflicts (zone_of initial ops u) (zone_of initial ops v) → AreExtremes initial ops u v a b c d → IsCrossing initial ops a b c d
   extremes_cross u v a b c d n h x =
       let k = (conflict_is u v).0 h in
-      let (a_stands, one) = least_stands u a x.a_least in
-      let (b_stands, b_other) = member_of v b x.b_greatest.0 in
-      let (c_stands, other) = least_stands v c x.c_least in
-      let (d_stands, d_one) = member_of u d x.d_greatest.0 in
+      let (a_present, one) = least_present u a x.a_least in
+      let (b_present, b_other) = member_of v b x.b_greatest.0 in
+      let (c_present, other) = least_present v c x.c_least in
+      let (d_present, d_one) = member_of u d x.d_greatest.0 in
       record {
-        a_stands = a_stands;
-        b_stands = b_stands;
-        c_stands = c_stands;
-        d_stands = d_stands;
+        a_present = a_present;
+        b_present = b_present;
+        c_present = c_present;
+        d_present = d_present;
         one_value = one ∙ sym d_one;
         other_value = other ∙ sym b_other;
         apart = λ e. n (sym d_one ∙ (sym e ∙ b_other));
@@ -330,7 +330,7 @@ module _ (initial : Value) (ops : List Op) where
   least_first : (a : Option Op) (b : Op) → StandsJudged ops a → Contains (judged ops) b → HasEndedBefore a b → ComesBefore (least (value_at initial a)) (greatest (value_of b.act))
   least_first None b h k p =
       before_not_after (least initial) (At b.begin) (greatest (value_of b.act))
-      (not_after_before (least initial) Before (At b.begin) (least-bound (spans_of initial ops initial) initial_span initial_stands) refl)
+      (not_after_before (least initial) Before (At b.begin) (least-bound (spans_of initial ops initial) initial_span initial_present) refl)
       (greatest_at_least (value_of b.act) b (k, refl))
   least_first (Some a) b h k p =
       before_not_after (least (value_of a.act)) (At b.begin) (greatest (value_of b.act))
@@ -339,8 +339,8 @@ module _ (initial : Value) (ops : List Op) where
 
   pub conflict_of : (a : Option Op) (b : Op) (c : Option Op) (d : Op) → IsCrossing initial ops a b c d → Conflicts (zone_of initial ops (value_of d.act)) (zone_of initial ops (value_of b.act))
   conflict_of a b c d x = (conflict_is (value_of d.act) (value_of b.act)).1 (
-    subst (λ (v : Value). ComesBefore (least v) (greatest (value_of b.act))) x.one_value (least_first a b x.a_stands x.b_stands x.a_before_b),
-    subst (λ (v : Value). ComesBefore (least v) (greatest (value_of d.act))) x.other_value (least_first c d x.c_stands x.d_stands x.c_before_d),
+    subst (λ (v : Value). ComesBefore (least v) (greatest (value_of b.act))) x.one_value (least_first a b x.a_present x.b_present x.a_before_b),
+    subst (λ (v : Value). ComesBefore (least v) (greatest (value_of d.act))) x.other_value (least_first c d x.c_present x.d_present x.c_before_d),
   )
 
   pub edges_in_order : (v : Value) → HasOrderedEdges (zone_of initial ops v)
@@ -356,6 +356,6 @@ module _ (initial : Value) (ops : List Op) where
       (subst (EdgeIn initial) (sym left_initial) refl)
       (All-map (λ v. EdgeIn v (left v)) (λ w. value_of w.act) (writes ops)
       (all_from (λ w. EdgeIn (value_of w.act) (left (value_of w.act))) (writes ops) (λ w h.
-      let k = kept_stands is_write ops w h in
+      let k = kept_present is_write ops w h in
       left_in (value_of w.act) w (kept is_judged ops w k.0 (judged_write w k.1), refl)))))
       pairs

@@ -5,19 +5,18 @@ use Rattle.std.proofs.Crossing.{crosses}
 use Rattle.std.proofs.MapsCrossing.{crosses as maps}
 use Rattle.intervals.proofs.table.OpTable.TheSendSync as table
 use Rattle.intervals.proofs.claim.Claim.TheSendSync as claim
-use Rattle.stretch_tree.proofs.Crosses as stretches
-use Rattle.zone_tree.proofs.Crosses as zones
+use Rattle.zone_tree.proofs.Crosses.{zones_field_send, zones_field_sync, stretches_field_send, stretches_field_sync}
 use Rattle.zones.specs.contracts.register.Clusters.{the_row, the_field}
 
 module _ (a : NamedLft) where
   pub field_send : IsSend (the_field a).row
-  field_send = search (zones.field_send, stretches.field_send, table.the_send, claim.the_field_send, maps, crosses, sendable) depth 60 fits 20000
+  field_send = search (zones_field_send, stretches_field_send, table.the_send, claim.the_field_send, maps, crosses, sendable) depth 60 fits 20000
 
   pub send : IsSend (the_row a)
-  send = search (zones.field_send, stretches.field_send, table.the_send, claim.the_field_send, maps, crosses, sendable) depth 60 fits 20000
+  send = search (zones_field_send, stretches_field_send, table.the_send, claim.the_field_send, maps, crosses, sendable) depth 60 fits 20000
 
   pub field_sync : IsSync (the_field a).row
-  field_sync = search (zones.field_sync, stretches.field_sync, table.the_sync, claim.the_field_sync, maps, crosses, sendable) depth 60 fits 20000
+  field_sync = search (zones_field_sync, stretches_field_sync, table.the_sync, claim.the_field_sync, maps, crosses, sendable) depth 60 fits 20000
 
   pub sync : IsSync (the_row a)
-  sync = search (zones.field_sync, stretches.field_sync, table.the_sync, claim.the_field_sync, maps, crosses, sendable) depth 60 fits 20000
+  sync = search (zones_field_sync, stretches_field_sync, table.the_sync, claim.the_field_sync, maps, crosses, sendable) depth 60 fits 20000

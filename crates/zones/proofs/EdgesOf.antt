@@ -8,7 +8,7 @@ use Rattle.intervals.specs.declared.operation.Moment.{Moment}
 use Rattle.intervals.specs.declared.operation.OpId.{OpId}
 use Rattle.intervals.specs.declared.operation.Value.{Value}
 use Rattle.intervals.specs.Operation.{IsJudgedRead, IsWrite, is_judged_read, is_write, judged, same_value, value_of}
-use Rattle.stretch_tree.specs.declared.stretch.Stretch.{Stretch}
+use Rattle.zone_tree.specs.declared.stretch.Stretch.{Stretch}
 use Rattle.zone_tree.specs.declared.edge.Edge.{Edge}
 use Rattle.zone_tree.specs.declared.edge.Edge.TheVariants.{Before, At, Never}
 use Rattle.zone_tree.specs.Edge.{ComesBefore, earlier_edge, later_edge, same_edge}
@@ -26,7 +26,7 @@ use Rattle.zones.specs.Zoned.{IsZoneAt}
 use Rattle.zones.proofs.EdgeOrder.{AtMost, at_most_both, at_most_itself, at_most_transitive, earlier-cases, earlier-left, earlier-right, later-cases, later-left, later-right}
 use Rattle.zones.proofs.Ends.{in_judged-read, in_judged-write, none_begins, none_ends}
 use Rattle.zones.proofs.Judged.{is_judged}
-use Rattle.zones.proofs.Members.{Decides-same_value, all_from, kept_stands}
+use Rattle.zones.proofs.Members.{Decides-same_value, all_from, kept_present}
 use Rattle.zones.proofs.Stretches.{BeginCases, IsHeld, at_write, begin_cases, first_at_most, first_end_is, first_held, first_of_reads, never_written, no_write, no_write_at, written}
 use Rattle.zones.proofs.Written.{never_last}
 
@@ -50,21 +50,21 @@ module _ (test : Op → Bool) (before : List Op) (old new : Option Op) (after : 
   Passes op = test op ≡ true
 
   came : (op : Op) → new ≡ Some op → Contains after op
-  came op e = let h : IfSome (Some op) (λ op. Contains (judged after) op) = subst (λ (n : Option Op). IfSome n (λ op. Contains (judged after) op)) e change.comes in (kept_stands is_judged after op h).0
+  came op e = let h : IfSome (Some op) (λ op. Contains (judged after) op) = subst (λ (n : Option Op). IfSome n (λ op. Contains (judged after) op)) e change.comes in (kept_present is_judged after op h).0
 
   stayed : (op : Op) → Contains before op → test op ≡ true → old ≢ Some op → Contains after op
   stayed op h t n = by_cases (change.stay op (judged_by before op h t))
     where
       by_cases : (old ≡ Some op) ⊎ Contains (judged after) op → Contains after op
       by_cases (inl e) = absurd (n e)
-      by_cases (inr k) = (kept_stands is_judged after op k).0
+      by_cases (inr k) = (kept_present is_judged after op k).0
 
   stood : (op : Op) → Contains after op → test op ≡ true → (new ≡ Some op) ⊎ Contains before op
   stood op h t = by_cases (change.stood op (judged_by after op h t))
     where
       by_cases : (new ≡ Some op) ⊎ (Contains (judged before) op × (old ≢ Some op)) → (new ≡ Some op) ⊎ Contains before op
       by_cases (inl e) = inl e
-      by_cases (inr (k, n)) = inr (kept_stands is_judged before op k).0
+      by_cases (inr (k, n)) = inr (kept_present is_judged before op k).0
 
   not_new : op_if_of_value test v new ≡ None → (op : Op) → test op ≡ true → value_of op.act ≡ v → new ≢ Some op
   not_new none op t e f = absurd (let g : Some op ≡ None = sym (passes test v op t e) ∙ (ap (op_if_of_value test v) (sym f) ∙ none) in cc)
@@ -191,37 +191,37 @@ pub edges_of_write : (ops : List Op) (v : Value) (w : Op) → IsTheWriteAt ops v
 edges_of_write ops v w is one = record {
   begin = record {
     greatest = all_from (λ op. IsWrite op → value_of op.act ≡ v → AtMost (At op.begin) (At w.begin)) ops (λ op h t e. subst (λ (x : Op). AtMost (At x.begin) (At w.begin)) (same op h t e) (at_most_itself (At w.begin)));
-    held = inr (w, is.stands, is.write, is.same, refl);
+    held = inr (w, is.present, is.write, is.same, refl);
   };
   end = record {
     least = all_from (λ op. IsWrite op → value_of op.act ≡ v → AtMost (edge_of_end w.end) (edge_of_end op.end)) ops (λ op h t e. subst (λ (x : Op). AtMost (edge_of_end w.end) (edge_of_end x.end)) (same op h t e) (at_most_itself (edge_of_end w.end)));
-    held = inr (w, is.stands, is.write, is.same, refl);
+    held = inr (w, is.present, is.write, is.same, refl);
   };
   one = one;
 }
   where
     same : (op : Op) → Contains ops op → IsWrite op → value_of op.act ≡ v → w ≡ op
-    same op h t e = one w op is (record { stands = h; write = t; same = e })
+    same op h t e = one w op is (record { present = h; write = t; same = e })
 
 pub edges_of_none : (ops : List Op) (v : Value) → HasNoWrite ops v → AreWriteEdges ops v Before Never
 edges_of_none ops v none = record {
   begin = none_begins ops v IsWrite none;
   end = none_ends ops v IsWrite none;
-  one = λ a b is_a is_b. absurd (All-contains (λ w. IsWrite w → value_of w.act ≢ v) ops a none is_a.stands is_a.write is_a.same);
+  one = λ a b is_a is_b. absurd (All-contains (λ w. IsWrite w → value_of w.act ≢ v) ops a none is_a.present is_a.write is_a.same);
 }
 
 -- a judged operation that is a write of the value is the write of the value
 pub known_write : (ops : List Op) (known : Option Op) (v : Value) (w : Op) → IfSome known (λ op. Contains (judged ops) op) → write_part v known ≡ Some w → IsTheWriteAt ops v w
-known_write ops known v w stands is =
+known_write ops known v w present is =
     let (e, t, s) = passed is_write v known w is in
-    let h : IfSome (Some w) (λ op. Contains (judged ops) op) = subst (λ (n : Option Op). IfSome n (λ op. Contains (judged ops) op)) e stands in
-    record { stands = (kept_stands is_judged ops w h).0; write = t; same = s }
+    let h : IfSome (Some w) (λ op. Contains (judged ops) op) = subst (λ (n : Option Op). IfSome n (λ op. Contains (judged ops) op)) e present in
+    record { present = (kept_present is_judged ops w h).0; write = t; same = s }
 
 -- the edges of the writes
 module _ (before : List Op) (old new : Option Op) (after : List Op) (change : IsChange before old new after) (v : Value) where
   one_after : (a b : Op) → IsTheWriteAt after v a → IsTheWriteAt after v b → a ≡ b
   one_after a b is_a is_b =
-      change.apart_after.by_value a b (in_judged-write after v a is_a.stands is_a.write) (in_judged-write after v b is_b.stands is_b.write) (is_a.same ∙ sym is_b.same) is_a.write is_b.write
+      change.apart_after.by_value a b (in_judged-write after v a is_a.present is_a.write) (in_judged-write after v b is_b.present is_b.write) (is_a.same ∙ sym is_b.same) is_a.write is_b.write
 
   pub write_came : (w : Op) → write_part v new ≡ Some w → AreWriteEdges after v (At w.begin) (edge_of_end w.end)
   write_came w is = edges_of_write after v w (known_write after new v w change.comes is) one_after
@@ -230,7 +230,7 @@ module _ (before : List Op) (old new : Option Op) (after : List Op) (change : Is
   named_came w is = (w, known_write after new v w change.comes is, refl)
 
   pub named_went : (w : Op) → write_part v new ≡ None → write_part v old ≡ Some w → NamesWrite after v None
-  named_went w none is = no_write after v (λ x is_x. by_place x is_x (change.stood x (in_judged-write after v x is_x.stands is_x.write)))
+  named_went w none is = no_write after v (λ x is_x. by_place x is_x (change.stood x (in_judged-write after v x is_x.present is_x.write)))
     where
       is_w : IsTheWriteAt before v w
       is_w = known_write before old v w change.goes is
@@ -238,19 +238,19 @@ module _ (before : List Op) (old new : Option Op) (after : List Op) (change : Is
       by_place : (x : Op) → IsTheWriteAt after v x → (new ≡ Some x) ⊎ (Contains (judged before) x × (old ≢ Some x)) → ⊥
       by_place x is_x (inl e) = not_new is_write before old new after change v (λ ops. in_judged-write ops v) none x is_x.write is_x.same e
       by_place x is_x (inr (h, n)) =
-          let same : w ≡ x = change.apart_before.by_value w x (in_judged-write before v w is_w.stands is_w.write) h (is_w.same ∙ sym is_x.same) is_w.write is_x.write in
+          let same : w ≡ x = change.apart_before.by_value w x (in_judged-write before v w is_w.present is_w.write) h (is_w.same ∙ sym is_x.same) is_w.write is_x.write in
           n ((passed is_write v old w is).0 ∙ ap Some same)
 
   pub write_went : (w : Op) → write_part v new ≡ None → write_part v old ≡ Some w → AreWriteEdges after v Before Never
   write_went w none is = edges_of_none after v (named_went w none is)
 
   pub named_same : (name : Option OpId) → write_part v new ≡ None → write_part v old ≡ None → NamesWrite before v name → NamesWrite after v name
-  named_same None none still is = no_write after v (λ x is_x. by_place x is_x (stood is_write before old new after change v (λ ops. in_judged-write ops v) x is_x.stands is_x.write))
+  named_same None none still is = no_write after v (λ x is_x. by_place x is_x (stood is_write before old new after change v (λ ops. in_judged-write ops v) x is_x.present is_x.write))
     where
       by_place : (x : Op) → IsTheWriteAt after v x → (new ≡ Some x) ⊎ Contains before x → ⊥
       by_place x is_x (inl e) = not_new is_write before old new after change v (λ ops. in_judged-write ops v) none x is_x.write is_x.same e
       by_place x is_x (inr h) = All-contains (λ w. IsWrite w → value_of w.act ≢ v) before x is h is_x.write is_x.same
-  named_same (Some id) none still (w, is, named) = (w, record { stands = stayed is_write before old new after change v (λ ops. in_judged-write ops v) w is.stands is.write other; write = is.write; same = is.same }, named)
+  named_same (Some id) none still (w, is, named) = (w, record { present = stayed is_write before old new after change v (λ ops. in_judged-write ops v) w is.present is.write other; write = is.write; same = is.same }, named)
     where
       other : old ≢ Some w
       other e = absurd (let g : Some w ≡ None = sym (passes is_write v w is.write is.same) ∙ (ap (op_if_of_value is_write v) (sym e) ∙ still) in cc)
@@ -305,8 +305,8 @@ module _ (P : Op → Type 0) (ops : List Op) (v : Value) (edge : Edge) (is : IsG
 -- a value has a write where a write of it has begun
 pub written_by_edge : (ops : List Op) (v : Value) (begin end : Edge) → AreWriteEdges ops v begin end → ComesBefore Before begin ↔ HasWrite ops v
 written_by_edge ops v begin end are = (
-  (λ h. let (w, k, t, s, f) = begun IsWrite ops v begin are.begin h in (w, record { stands = k; write = t; same = s })),
-  (λ (w, is). has_begun IsWrite ops v begin are.begin w is.stands is.write is.same),
+  (λ h. let (w, k, t, s, f) = begun IsWrite ops v begin are.begin h in (w, record { present = k; write = t; same = s })),
+  (λ (w, is). has_begun IsWrite ops v begin are.begin w is.present is.write is.same),
 )
 
 -- the first end of the reads, by their edges
@@ -326,11 +326,11 @@ module _ (ops : List Op) (v : Value) (begin end : Edge) (are : AreWriteEdges ops
   pub begin_by_edge : ComesBefore Before begin → begin ≡ begin_of_write (write_of ops v)
   begin_by_edge h =
       let (w, k, t, s, f) = begun IsWrite ops v begin are.begin h in
-      let is : IsTheWriteAt ops v w = record { stands = k; write = t; same = s } in
+      let is : IsTheWriteAt ops v w = record { present = k; write = t; same = s } in
       sym f ∙ sym (at_write ops v w is (λ x is_x. are.one x w is_x is)).0
 
   pub begin_by_none : ¬ ComesBefore Before begin → Never ≡ begin_of_write (write_of ops v)
-  begin_by_none n = sym (never_written ops v (no_write ops v (λ w is. n (has_begun IsWrite ops v begin are.begin w is.stands is.write is.same)))).0
+  begin_by_none n = sym (never_written ops v (no_write ops v (λ w is. n (has_begun IsWrite ops v begin are.begin w is.present is.write is.same)))).0
 
 -- edges are those of the value that they have
 pub at_itself : (ops : List Op) (v : Value) (edges : Edges) → AreEdges ops v edges → AreEdges ops edges.value edges

@@ -18,14 +18,14 @@ use Rattle.intervals.specs.Terms.{ClaimModel}
 use Rattle.intervals.specs.declared.claim.Kind.TheVariants.{Atomic}
 use Rattle.intervals.proofs.Accepted.{edit_accepted}
 use Rattle.intervals.proofs.Found.{find-Some}
-use Rattle.intervals.proofs.Ids.{not_taken, none_of, found_alike, found_by_id, same_id-refl, found_stands, found_again}
+use Rattle.intervals.proofs.Ids.{not_taken, none_of, found_alike, found_by_id, same_id-refl, found_present, found_again}
 use Rattle.intervals.proofs.Claimed.{HaveOtherValues}
 use Rattle.intervals.proofs.Standing.{nothing_apart, edited_apart}
 use Rattle.zones.specs.Cluster.{edge_of_end}
 use Rattle.zones.specs.Members.{HaveOwnPlaces, IsChange}
 use Rattle.zones.specs.Zoned.{AreManyWriters, judged_part}
 use Rattle.zones.proofs.Judged.{is_judged}
-use Rattle.zones.proofs.Members.{in_none, contains_cases, kept, kept_stands, mapped, here, there, pair_of}
+use Rattle.zones.proofs.Members.{in_none, contains_cases, kept, kept_present, mapped, here, there, pair_of}
 
 -- an element of an image is the image of an element
 pub from_map : {X Y : Type 0} (f : X → Y) (xs : List X) (y : Y) → Contains (map f xs) y → (x : X) × Contains xs x × (f x ≡ y)
@@ -67,7 +67,7 @@ from_edited ops (Amend id change) x d accepted h = let (a, k, e) = from_map (ame
     by_cases : (a : Op) → Contains ops a → amended id change a ≡ x → ((same_id a.id id ≡ true) × (amended id change a ≡ changed a change)) ⊎ ((same_id a.id id ≡ false) × (amended id change a ≡ a)) → StandsAfter ops (Amend id change) x
     by_cases a k e (inl (s, f)) = inl (ap (option_map (λ op. changed op change)) (sym (found_alike ops a.id id s) ∙ found_by_id ops a d k) ∙ ap Some (sym f ∙ e))
     by_cases a k e (inr (s, f)) = inr (subst (λ (o : Op). Contains ops o × (same_id o.id id ≡ false)) (sym f ∙ e) (k, s))
-from_edited ops (Withdraw id) x d accepted h = let (k, t) = kept_stands (λ op. not (same_id op.id id)) ops x h in inr (k, not-true (same_id x.id id) t)
+from_edited ops (Withdraw id) x d accepted h = let (k, t) = kept_present (λ op. not (same_id op.id id)) ops x h in inr (k, not-true (same_id x.id id) t)
 from_edited ops (Claim kind) x d accepted h = inr (h, refl)
 
 pub in_edited : (ops : List Op) (edit : Edit) (x : Op) → StandsAfter ops edit x → Contains (edited ops edit) x
@@ -122,8 +122,8 @@ write_without_end true s e f = refl
 write_without_end false s e f = absurd (both_ways s f e)
 
 module _ (claim : ClaimModel) (ops : List Op) (apart : AreManyWriters claim ops) where
-  stands : (a : Op) → Contains (judged ops) a → Contains ops a
-  stands a h = (kept_stands is_judged ops a h).0
+  present : (a : Op) → Contains (judged ops) a → Contains ops a
+  present a h = (kept_present is_judged ops a h).0
 
   one_moment : (a b : Op) → Contains ops a → Contains ops b → ¬ ShareNoMoment a b → a ≡ b
   one_moment = one_by ops apart.kept.ids ShareNoMoment (λ a b none m p q. none m q p) apart.kept.moments
@@ -132,20 +132,20 @@ module _ (claim : ClaimModel) (ops : List Op) (apart : AreManyWriters claim ops)
   one_value a b h k write_a write_b e = one_by ops apart.kept.ids HaveOtherValues (λ v w other p q s. other q p (sym s)) (apart.kept.values apart.atomic).apart a b h k (λ other. other write_a write_b e)
 
   writes_without : (a : Op) → Contains (judged ops) a → a.end ≡ None → IsWrite a
-  writes_without a h e = write_without_end (is_write a) (is_some a.end) (kept_stands is_judged ops a h).1 (ap is_some e)
+  writes_without a h e = write_without_end (is_write a) (is_some a.end) (kept_present is_judged ops a h).1 (ap is_some e)
 
   pub own_places : HaveOwnPlaces ops
   own_places = record {
     by_end = λ a b h k same e. by_ends a b h k same a.end b.end refl refl e;
-    by_begin = λ a b h k same e. one_moment a b (stands a h) (stands b k) (λ none. none b.begin (inl e) (inl refl));
-    by_value = λ a b h k same write_a write_b. one_value a b (stands a h) (stands b k) write_a write_b same;
+    by_begin = λ a b h k same e. one_moment a b (present a h) (present b k) (λ none. none b.begin (inl e) (inl refl));
+    by_value = λ a b h k same write_a write_b. one_value a b (present a h) (present b k) write_a write_b same;
   }
     where
       by_ends : (a b : Op) → Contains (judged ops) a → Contains (judged ops) b → value_of a.act ≡ value_of b.act → (end other : Option Moment) → a.end ≡ end → b.end ≡ other → edge_of_end end ≡ edge_of_end other → a ≡ b
-      by_ends a b h k same (Some m) (Some n) e f g = let moment : n ≡ m = cc in one_moment a b (stands a h) (stands b k) (λ none. none m (inr e) (inr (f ∙ ap Some moment)))
+      by_ends a b h k same (Some m) (Some n) e f g = let moment : n ≡ m = cc in one_moment a b (present a h) (present b k) (λ none. none m (inr e) (inr (f ∙ ap Some moment)))
       by_ends a b h k same (Some m) None e f g = absurd (cc)
       by_ends a b h k same None (Some n) e f g = absurd (cc)
-      by_ends a b h k same None None e f g = one_value a b (stands a h) (stands b k) (writes_without a h e) (writes_without b k f) same
+      by_ends a b h k same None None e f g = one_value a b (present a h) (present b k) (writes_without a h e) (writes_without b k f) same
 
 pub apart_none : (claim : ClaimModel) → claim.kind ≡ Atomic → AreManyWriters claim []
 apart_none claim atomic = record { atomic = atomic; kept = nothing_apart claim }
@@ -162,7 +162,7 @@ module _ (claim : ClaimModel) (ops : List Op) (edit : Edit) (apart : AreManyWrit
 
   -- an operation that is judged after the edit is its new one, or it was judged before and has another id
   from_judged : (x : Op) → Contains (judged (edited ops edit)) x → (new ≡ Some x) ⊎ (Contains (judged ops) x × (has_id (edit_id edit) x ≡ false))
-  from_judged x h = let (k, t) = kept_stands is_judged (edited ops edit) x h in by_cases t (from_edited ops edit x apart.kept.ids (edit_accepted claim ops edit accepted) k)
+  from_judged x h = let (k, t) = kept_present is_judged (edited ops edit) x h in by_cases t (from_edited ops edit x apart.kept.ids (edit_accepted claim ops edit accepted) k)
     where
       by_cases : is_judged x ≡ true → StandsAfter ops edit x → (new ≡ Some x) ⊎ (Contains (judged ops) x × (has_id (edit_id edit) x ≡ false))
       by_cases t (inl e) = inl (part_of (new_op ops edit) x e t)
@@ -172,14 +172,14 @@ module _ (claim : ClaimModel) (ops : List Op) (edit : Edit) (apart : AreManyWrit
   new_judged x e = let (is, t) = part_is (new_op ops edit) x e in kept is_judged (edited ops edit) x (in_edited ops edit x (inl is)) t
 
   still_judged : (x : Op) → Contains (judged ops) x → has_id (edit_id edit) x ≡ false → Contains (judged (edited ops edit)) x
-  still_judged x h s = let (k, t) = kept_stands is_judged ops x h in kept is_judged (edited ops edit) x (in_edited ops edit x (inr (k, s))) t
+  still_judged x h s = let (k, t) = kept_present is_judged ops x h in kept is_judged (edited ops edit) x (in_edited ops edit x (inr (k, s))) t
 
   old_id : (x : Op) → old ≡ Some x → has_id (edit_id edit) x ≡ true
-  old_id x e = (found_stands ops (edit_id edit) x (part_is (found_by ops (edit_id edit)) x e).0).1
+  old_id x e = (found_present ops (edit_id edit) x (part_is (found_by ops (edit_id edit)) x e).0).1
 
   pub change_of_edit : IsChange ops old new (edited ops edit)
   change_of_edit = record {
-    goes = if_some (Contains (judged ops)) old (λ x e. let (is, t) = part_is (found_by ops (edit_id edit)) x e in kept is_judged ops x (found_stands ops (edit_id edit) x is).0 t);
+    goes = if_some (Contains (judged ops)) old (λ x e. let (is, t) = part_is (found_by ops (edit_id edit)) x e in kept is_judged ops x (found_present ops (edit_id edit) x is).0 t);
     comes = if_some (Contains (judged (edited ops edit))) new new_judged;
     stay = λ x h. by_id x h (has_id (edit_id edit) x) refl;
     stood = λ x h. by_cases x (from_judged x h);
@@ -188,7 +188,7 @@ module _ (claim : ClaimModel) (ops : List Op) (edit : Edit) (apart : AreManyWrit
   }
     where
       by_id : (x : Op) → Contains (judged ops) x → (t : Bool) → has_id (edit_id edit) x ≡ t → (old ≡ Some x) ⊎ Contains (judged (edited ops edit)) x
-      by_id x h true t = let (k, j) = kept_stands is_judged ops x h in inl (part_of (found_by ops (edit_id edit)) x (found_again ops (edit_id edit) x apart.kept.ids k t) j)
+      by_id x h true t = let (k, j) = kept_present is_judged ops x h in inl (part_of (found_by ops (edit_id edit)) x (found_again ops (edit_id edit) x apart.kept.ids k t) j)
       by_id x h false t = inr (still_judged x h t)
 
       by_cases : (x : Op) → (new ≡ Some x) ⊎ (Contains (judged ops) x × (has_id (edit_id edit) x ≡ false)) → (new ≡ Some x) ⊎ (Contains (judged ops) x × (old ≢ Some x))

@@ -24,7 +24,7 @@ use Rattle.zones.proofs.Cluster.{greatest_at_least, greatest_of_one, least_at_mo
 use Rattle.zones.proofs.EdgeOrder.{AtMost, at_most_both, at_most_itself, at_most_transitive, before_all, earlier-cases, earlier-left, earlier-right, later-cases, later-left, later-right}
 use Rattle.zones.proofs.Judged.{is_judged, is_judged_by_end, judged_read, judged_write}
 use Rattle.zones.proofs.Lookups.{has_end}
-use Rattle.zones.proofs.Members.{all_from, here, kept, kept_stands}
+use Rattle.zones.proofs.Members.{all_from, here, kept, kept_present}
 use Rattle.zones.proofs.Written.{never_last, other_than, written_zone_is}
 
 -- where an optional operation ends, and where it begins
@@ -63,20 +63,20 @@ module _ (ops : List Op) (v : Value) where
   module _ (one : (a b : Op) → IsTheWriteAt ops v a → IsTheWriteAt ops v b → a ≡ b) where
     -- the value has one write
     one_write : (w x : Op) → IsTheWriteAt ops v w → Contains ops x → IsWrite x → value_of x.act ≡ v → x ≡ w
-    one_write w x is_w h t e = one x w (record { stands = h; write = t; same = e }) is_w
+    one_write w x is_w h t e = one x w (record { present = h; write = t; same = e }) is_w
 
     pub write_ends : (w : Op) → IsTheWriteAt ops v w → IsLeastEnd IsWrite ops v (edge_of_end w.end)
     write_ends w is_w = record {
       least = all_from (λ op. IsWrite op → value_of op.act ≡ v → AtMost (edge_of_end w.end) (edge_of_end op.end)) ops
           (λ op h t e. subst (λ (x : Op). AtMost (edge_of_end w.end) (edge_of_end x.end)) (sym (one_write w op is_w h t e)) (at_most_itself (edge_of_end w.end)));
-      held = inr (w, is_w.stands, is_w.write, is_w.same, refl);
+      held = inr (w, is_w.present, is_w.write, is_w.same, refl);
     }
 
     pub write_begins : (w : Op) → IsTheWriteAt ops v w → IsGreatestBegin IsWrite ops v (At w.begin)
     write_begins w is_w = record {
       greatest = all_from (λ op. IsWrite op → value_of op.act ≡ v → AtMost (At op.begin) (At w.begin)) ops
           (λ op h t e. subst (λ (x : Op). AtMost (At x.begin) (At w.begin)) (sym (one_write w op is_w h t e)) (at_most_itself (At w.begin)));
-      held = inr (w, is_w.stands, is_w.write, is_w.same, refl);
+      held = inr (w, is_w.present, is_w.write, is_w.same, refl);
     }
 
   pub read_ends : (end : Moment) (id : OpId) → EndsFirstOf ops v end id → IsLeastEnd IsJudgedRead ops v (At end)
@@ -87,7 +87,7 @@ module _ (ops : List Op) (v : Value) where
         let lt = ltb-true m.0 end.0 (rw g at p) in
         let n : end.0 ≤ m.0 = rw g at le in
         omega arith);
-    held = inr (is.read, is.stands, is.judged, is.same, ap edge_of_end is.ended);
+    held = inr (is.read, is.present, is.judged, is.same, ap edge_of_end is.ended);
   }
 
   pub read_begins : (begin : Moment) (id : OpId) → BeginsLastOf ops v begin id → IsGreatestBegin IsJudgedRead ops v (At begin)
@@ -96,7 +96,7 @@ module _ (ops : List Op) (v : Value) where
         let le = All-contains (λ r. IsJudgedRead r → value_of r.act ≡ v → r.begin.0 ≤ begin.0) ops op is.last h j e in
         let lt = ltb-true begin.0 op.begin.0 p in
         omega arith);
-    held = inr (is.read, is.stands, is.judged, is.same, ap At is.began);
+    held = inr (is.read, is.present, is.judged, is.same, ap At is.began);
   }
 
   pub in_judged-write : (op : Op) → Contains ops op → IsWrite op → Contains (judged ops) op
@@ -107,7 +107,7 @@ module _ (ops : List Op) (v : Value) where
 
   -- an operation of the cluster is its write or a read
   parts_of : (op : Op) → Contains (judged ops) op → Contains ops op × (IsWrite op ⊎ IsJudgedRead op)
-  parts_of op h = let (k, j) = kept_stands is_judged ops op h in (k, by_cases j (cases_Bool (is_write op)))
+  parts_of op h = let (k, j) = kept_present is_judged ops op h in (k, by_cases j (cases_Bool (is_write op)))
     where
       by_cases : is_judged op ≡ true → (is_write op ≡ true) ⊎ (is_write op ≡ false) → IsWrite op ⊎ IsJudgedRead op
       by_cases j (inl t) = inl t
@@ -121,11 +121,11 @@ module _ (ops : List Op) (v : Value) where
     greatest = greatest_begin_of initial ops v
 
     held_least : (P : Op → Type 0) → ((op : Op) → Contains ops op → P op → Contains (judged ops) op) → (e : Edge) → IsLeastEnd P ops v e → AtMost least e
-    held_least P stands e is = by_cases is.held
+    held_least P present e is = by_cases is.held
       where
         by_cases : (e ≡ Never) ⊎ ((op : Op) × Contains ops op × P op × (value_of op.act ≡ v) × (edge_of_end op.end ≡ e)) → AtMost least e
         by_cases (inl n) = subst (λ (x : Edge). AtMost least x) (sym n) (never_last least)
-        by_cases (inr (op, h, p, s, f)) = subst (λ (x : Edge). AtMost least x) f (least_at_most initial ops v op (stands op h p, s))
+        by_cases (inr (op, h, p, s, f)) = subst (λ (x : Edge). AtMost least x) f (least_at_most initial ops v op (present op h p, s))
 
     pub least_is : v ≢ initial → IsLeastEnd IsWrite ops v a → IsLeastEnd IsJudgedRead ops v b → earlier_edge a b ≡ least
     least_is apart w r = at_most_both (earlier_edge a b) least (by_least (least_of_one initial ops v apart)) (by_earlier (earlier-cases a b))
@@ -147,11 +147,11 @@ module _ (ops : List Op) (v : Value) where
         by_earlier (inr e) = subst (λ (x : Edge). AtMost least x) e (held_least IsJudgedRead in_judged-read b r)
 
     held_greatest : (P : Op → Type 0) → ((op : Op) → Contains ops op → P op → Contains (judged ops) op) → (e : Edge) → IsGreatestBegin P ops v e → AtMost e greatest
-    held_greatest P stands e is = by_cases is.held
+    held_greatest P present e is = by_cases is.held
       where
         by_cases : (e ≡ Before) ⊎ ((op : Op) × Contains ops op × P op × (value_of op.act ≡ v) × (At op.begin ≡ e)) → AtMost e greatest
         by_cases (inl n) = subst (λ (x : Edge). AtMost x greatest) (sym n) (before_all greatest)
-        by_cases (inr (op, h, p, s, f)) = subst (λ (x : Edge). AtMost x greatest) f (greatest_at_least initial ops v op (stands op h p, s))
+        by_cases (inr (op, h, p, s, f)) = subst (λ (x : Edge). AtMost x greatest) f (greatest_at_least initial ops v op (present op h p, s))
 
     module _ (w : IsGreatestBegin IsWrite ops v a) (r : IsGreatestBegin IsJudgedRead ops v b) where
       greatest_bound : (op : Op) → Contains ops op × (IsWrite op ⊎ IsJudgedRead op) → value_of op.act ≡ v → AtMost (At op.begin) (later_edge a b)
@@ -181,17 +181,17 @@ module _ (ops : List Op) (v : Value) (distinct : HasDistinctIds ops) where
   same_read read other h e found = let f = found_by_id ops other distinct h in let g = ap (op_of ops) e in cc
 
   record IsRead (r : Op) : Type 0 where
-    stands : Contains ops r
+    present : Contains ops r
     judged : IsJudgedRead r
     same : value_of r.act ≡ v
 
   first_read_is : (r : Op) → EndsFirstOf ops v (end_or_first r) r.id × (op_of ops r.id ≡ Some r) → IsRead r × IsLeastEnd IsJudgedRead ops v (edge_of_end r.end)
-  first_read_is r (is, found) = subst (λ (x : Op). IsRead x × IsLeastEnd IsJudgedRead ops v (edge_of_end x.end)) (same_read r is.read is.stands is.named found)
-      (record { stands = is.stands; judged = is.judged; same = is.same }, subst (λ (e : Edge). IsLeastEnd IsJudgedRead ops v e) (sym (ap edge_of_end is.ended)) (read_ends ops v (end_or_first r) r.id is))
+  first_read_is r (is, found) = subst (λ (x : Op). IsRead x × IsLeastEnd IsJudgedRead ops v (edge_of_end x.end)) (same_read r is.read is.present is.named found)
+      (record { present = is.present; judged = is.judged; same = is.same }, subst (λ (e : Edge). IsLeastEnd IsJudgedRead ops v e) (sym (ap edge_of_end is.ended)) (read_ends ops v (end_or_first r) r.id is))
 
   last_read_is : (r : Op) → BeginsLastOf ops v r.begin r.id × (op_of ops r.id ≡ Some r) → IsRead r × IsGreatestBegin IsJudgedRead ops v (At r.begin)
   last_read_is r (is, found) =
-      (subst IsRead (same_read r is.read is.stands is.named found) (record { stands = is.stands; judged = is.judged; same = is.same }), read_begins ops v r.begin r.id is)
+      (subst IsRead (same_read r is.read is.present is.named found) (record { present = is.present; judged = is.judged; same = is.same }), read_begins ops v r.begin r.id is)
 
   abbrev FoundWrite : Option Op → Type 0
   FoundWrite found = MatchOption found (HasNoWrite ops v) (IsTheWriteAt ops v)
@@ -204,10 +204,10 @@ module _ (ops : List Op) (v : Value) (distinct : HasDistinctIds ops) where
 
   module _ (initial : Value) where
     in_cluster-write : (w : Op) → IsTheWriteAt ops v w → Contains (cluster_of ops v) w
-    in_cluster-write w is = (members_of initial ops v w).1 (in_judged-write ops v w is.stands is.write, is.same)
+    in_cluster-write w is = (members_of initial ops v w).1 (in_judged-write ops v w is.present is.write, is.same)
 
     in_cluster-read : (r : Op) → IsRead r → Contains (cluster_of ops v) r
-    in_cluster-read r is = (members_of initial ops v r).1 (in_judged-read ops v r is.stands is.judged, is.same)
+    in_cluster-read r is = (members_of initial ops v r).1 (in_judged-read ops v r is.present is.judged, is.same)
 
     module _ (one : (a b : Op) → IsTheWriteAt ops v a → IsTheWriteAt ops v b → a ≡ b) where
       write_edge : (found : Option Op) → FoundWrite found → IsLeastEnd IsWrite ops v (end_at found)
@@ -274,12 +274,12 @@ module _ (ops : List Op) (v : Value) (distinct : HasDistinctIds ops) where
   pub first_read_found : (end : Moment) (id : OpId) → EndsFirstOf ops v end id → (found : Option Op) → found ≡ op_of ops id → FoundFirst found
   first_read_found end id is found e =
       let r = is.read in
-      let by_id : op_of ops r.id ≡ Some r = found_by_id ops r distinct is.stands in
+      let by_id : op_of ops r.id ≡ Some r = found_by_id ops r distinct is.present in
       let at_end : end ≡ end_or_first r = sym (ap (λ (o : Option Moment). unwrap_or o at_first) is.ended) in
       subst FoundFirst (sym (e ∙ (ap (op_of ops) (sym is.named) ∙ by_id))) (
         (record {
           read = r;
-          stands = is.stands;
+          present = is.present;
           judged = is.judged;
           same = is.same;
           named = refl;
@@ -292,11 +292,11 @@ module _ (ops : List Op) (v : Value) (distinct : HasDistinctIds ops) where
   pub last_read_found : (begin : Moment) (id : OpId) → BeginsLastOf ops v begin id → (found : Option Op) → found ≡ op_of ops id → FoundLast found
   last_read_found begin id is found e =
       let r = is.read in
-      let by_id : op_of ops r.id ≡ Some r = found_by_id ops r distinct is.stands in
+      let by_id : op_of ops r.id ≡ Some r = found_by_id ops r distinct is.present in
       subst FoundLast (sym (e ∙ (ap (op_of ops) (sym is.named) ∙ by_id))) (
         (record {
           read = r;
-          stands = is.stands;
+          present = is.present;
           judged = is.judged;
           same = is.same;
           named = refl;

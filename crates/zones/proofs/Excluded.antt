@@ -18,8 +18,8 @@ use Rattle.zones.specs.Cluster.{zone_of, written_values, zones_of}
 use Rattle.zones.specs.Fault.{IsUnwritten, IsEarly, IsFaultless}
 use Rattle.zones.specs.Crossing.{IsCrossing}
 use Rattle.zones.proofs.Judged.{is_judged, judged_read, judged_write}
-use Rattle.zones.proofs.Members.{kept, kept_stands, all_from, pairs_mapped}
-use Rattle.zones.proofs.Nearest.{clash, clash-flips, Decides-clash, StandsBefore, IsSound, NoneBefore, value_from, stands_first, no_return, one_first, write_first}
+use Rattle.zones.proofs.Members.{kept, kept_present, all_from, pairs_mapped}
+use Rattle.zones.proofs.Nearest.{clash, clash-flips, Decides-clash, StandsBefore, IsSound, NoneBefore, value_from, present_first, no_return, one_first, write_first}
 use Rattle.zones.proofs.Cluster.{Cross, crossing_of, edges_in_order, left_edges_apart}
 
 -- the values that have a write are different
@@ -28,7 +28,7 @@ values_apart initial ops values =
     AllPairs-cons (λ u v. u ≢ v) initial (map (λ w. value_of w.act) (writes ops))
     (All-map (λ v. initial ≢ v) (λ w. value_of w.act) (writes ops)
     (all_from (λ w. initial ≢ value_of w.act) (writes ops) (λ w h e.
-    let k = kept_stands is_write ops w h in
+    let k = kept_present is_write ops w h in
     All-contains (λ w. IsWrite w → value_of w.act ≢ initial) ops w values.new k.0 k.1 (sym e))))
     (pairs_mapped (λ w. value_of w.act) IsWrite (λ v w. IsWrite v → IsWrite w → value_of v.act ≢ value_of w.act) (λ u v. u ≢ v)
     (λ x y p q n. n p q) (writes ops) (filter_passes is_write ops)
@@ -40,7 +40,7 @@ module _ (claim : ClaimModel) (ops : List Op) where
     in_order x h = Contains-permutation (judged ops) order x arranges.each_once h
 
     from_order : (x : Op) → Contains order x → Contains ops x
-    from_order x h = (kept_stands is_judged ops x (Contains-permutation order (judged ops) x (IsPermutation-sym (judged ops) order arranges.each_once) h)).0
+    from_order x h = (kept_present is_judged ops x (Contains-permutation order (judged ops) x (IsPermutation-sym (judged ops) order arranges.each_once) h)).0
 
     not_unwritten : (r : Op) → Contains ops r → ¬ IsUnwritten claim.initial ops r
     not_unwritten r h u = by_value (value_from claim.initial order arranges.reads r (in_order r (kept is_judged ops r h (judged_read r u.read).0)))
@@ -68,28 +68,28 @@ module _ (claim : ClaimModel) (ops : List Op) where
           write_first claim.initial order r w sound
           (λ f. All-contains (λ w. IsWrite w → value_of w.act ≢ claim.initial) ops w values.new k e.write (e.one_value ∙ f))
           (judged_read r e.read).1 e.write e.one_value
-          (stands_first order r w arranges.keeps
+          (present_first order r w arranges.keeps
           (in_order r (kept is_judged ops r h (judged_read r e.read).0))
           (in_order w (kept is_judged ops w k (judged_write w e.write)))
           (λ f. let x : true ≡ false = sym e.write ∙ (sym (ap is_write f) ∙ (judged_read r e.read).1) in cc)
           e.ends_before)
 
-      stands : (a b : Op) → Contains (judged ops) a → Contains (judged ops) b → value_of a.act ≢ value_of b.act → Precedes a b → StandsBefore order a b
-      stands a b h k n p = stands_first order a b arranges.keeps (in_order a h) (in_order b k) (λ e. n (ap (λ (o : Op). value_of o.act) e)) p
+      present : (a b : Op) → Contains (judged ops) a → Contains (judged ops) b → value_of a.act ≢ value_of b.act → Precedes a b → StandsBefore order a b
+      present a b h k n p = present_first order a b arranges.keeps (in_order a h) (in_order b k) (λ e. n (ap (λ (o : Op). value_of o.act) e)) p
 
       not_crossing : (a : Option Op) (b : Op) (c : Option Op) (d : Op) → ¬ IsCrossing claim.initial ops a b c d
       not_crossing None b None d x = x.apart (sym x.other_value ∙ x.one_value)
       not_crossing None b (Some c) d x =
           let n : value_of c.act ≢ value_of d.act = λ e. x.apart (sym x.other_value ∙ e) in
-          no_return claim.initial order c d sound (λ e. n (e ∙ x.one_value)) (sym x.one_value) (stands c d x.c_stands x.d_stands n x.c_before_d)
+          no_return claim.initial order c d sound (λ e. n (e ∙ x.one_value)) (sym x.one_value) (present c d x.c_present x.d_present n x.c_before_d)
       not_crossing (Some a) b None d x =
           let n : value_of a.act ≢ value_of b.act = λ e. x.apart (sym e ∙ x.one_value) in
-          no_return claim.initial order a b sound (λ e. n (e ∙ x.other_value)) (sym x.other_value) (stands a b x.a_stands x.b_stands n x.a_before_b)
+          no_return claim.initial order a b sound (λ e. n (e ∙ x.other_value)) (sym x.other_value) (present a b x.a_present x.b_present n x.a_before_b)
       not_crossing (Some a) b (Some c) d x = by_cases (one_first claim.initial order (value_of d.act) (value_of b.act) sound (λ e. x.apart (sym e)))
         where
           by_cases : NoneBefore order (value_of d.act) (value_of b.act) ⊎ NoneBefore order (value_of b.act) (value_of d.act) → ⊥
-          by_cases (inl none) = none a b x.one_value refl (stands a b x.a_stands x.b_stands (λ e. x.apart (sym e ∙ x.one_value)) x.a_before_b)
-          by_cases (inr none) = none c d x.other_value refl (stands c d x.c_stands x.d_stands (λ e. x.apart (sym x.other_value ∙ e)) x.c_before_d)
+          by_cases (inl none) = none a b x.one_value refl (present a b x.a_present x.b_present (λ e. x.apart (sym e ∙ x.one_value)) x.a_before_b)
+          by_cases (inr none) = none c d x.other_value refl (present c d x.c_present x.d_present (λ e. x.apart (sym x.other_value ∙ e)) x.c_before_d)
 
   pub unwritten_excludes : (r : Op) → Contains ops r → IsUnwritten claim.initial ops r → ¬ IsArranged claim ops
   unwritten_excludes r h u (order, arranges) = not_unwritten order arranges r h u

@@ -19,7 +19,7 @@ use Rattle.zones.specs.Cluster.{edge_of_end, cluster_of, least_end_of, greatest_
 use Rattle.zones.specs.Crossing.{IsCrossing, HasLeastEnd, HasGreatestBegin, AreExtremes, HasFirstConflict, IsFirstCrossing}
 use Rattle.zones.proofs.EdgeOrder.{before_irreflexive}
 use Rattle.zones.proofs.Judged.{is_judged}
-use Rattle.zones.proofs.Members.{here, in_none, contains_cases, kept_stands, pairs_head, pairs_tail}
+use Rattle.zones.proofs.Members.{here, in_none, contains_cases, kept_present, pairs_head, pairs_tail}
 use Rattle.zones.proofs.Cluster.{least_initial, value_is, conflict_is, member_of, extremes_cross}
 use Rattle.zones.proofs.OneTurn.{one_holder}
 use Rattle.zones.proofs.Excluded.{zones_ordered}
@@ -54,13 +54,13 @@ module _ (initial : Value) (ops : List Op) where
         (Contains-permutation h.zones (zones_of initial ops) z (IsPermutation-sym (zones_of initial ops) h.zones h.each_once) (subst (λ (zs : List Zone). Contains zs z) (sym h.conflict.parts) k))
 
     first_zone : zone_of initial ops first.value ≡ first
-    first_zone = of_value first (Contains-append_left h.conflict.earlier (second ∷ h.conflict.later) first h.conflict.farthest.stands)
+    first_zone = of_value first (Contains-append_left h.conflict.earlier (second ∷ h.conflict.later) first h.conflict.farthest.present)
 
     second_zone : zone_of initial ops second.value ≡ second
     second_zone = of_value second (Contains-append_right h.conflict.earlier (second ∷ h.conflict.later) second (here second h.conflict.later))
 
     left_before : ComesBefore first.left second.left
-    left_before = before_it (λ a b. ComesBefore a.left b.left) h.conflict.earlier second h.conflict.later (subst IsByLeft h.conflict.parts h.by_left) first h.conflict.farthest.stands
+    left_before = before_it (λ a b. ComesBefore a.left b.left) h.conflict.earlier second h.conflict.later (subst IsByLeft h.conflict.parts h.by_left) first h.conflict.farthest.present
 
     values_apart : first.value ≢ second.value
     values_apart e =
@@ -77,8 +77,8 @@ module _ (initial : Value) (ops : List Op) where
 
   -- a cluster has one operation of least end, and one of greatest beginning
   module _ (moments : HasDistinctMoments ops) where
-    stands : (v : Value) (x : Op) → Contains (cluster_of ops v) x → Contains ops x
-    stands v x h = (kept_stands is_judged ops x (member_of initial ops v x h).0).0
+    present : (v : Value) (x : Op) → Contains (cluster_of ops v) x → Contains ops x
+    present v x h = (kept_present is_judged ops x (member_of initial ops v x h).0).0
 
     same_end : (v : Value) (x y : Op) (other : Edge) → ComesBefore (least_end_of initial ops v) other → HasLeastEnd initial ops v (Some x) → HasLeastEnd initial ops v (Some y) → x ≡ y
     same_end v x y other p h k = by_ends x.end y.end refl refl (h.1 ∙ sym k.1) (subst (λ (e : Edge). ComesBefore e other) (sym h.1) p)
@@ -86,7 +86,7 @@ module _ (initial : Value) (ops : List Op) where
         by_ends : (m n : Option Moment) → x.end ≡ m → y.end ≡ n → edge_of_end m ≡ edge_of_end n → ComesBefore (edge_of_end m) other → x ≡ y
         by_ends None n e f g p = absurd (cc)
         by_ends (Some m) None e f g p = absurd (cc)
-        by_ends (Some m) (Some n) e f g p = one_holder ops moments x y (stands v x h.0) (stands v y k.0) m (inr e) (inr (f ∙ ap Some (let same : n ≡ m = cc in same)))
+        by_ends (Some m) (Some n) e f g p = one_holder ops moments x y (present v x h.0) (present v y k.0) m (inr e) (inr (f ∙ ap Some (let same : n ≡ m = cc in same)))
 
     not_initial : (v : Value) (x : Op) → v ≡ initial → ¬ HasLeastEnd initial ops v (Some x)
     not_initial v x e h = by_end x.end (h.1 ∙ (ap (least_end_of initial ops) e ∙ least_initial initial ops))
@@ -104,7 +104,7 @@ module _ (initial : Value) (ops : List Op) where
     one_greatest : (v : Value) (x y : Op) → HasGreatestBegin initial ops v x → HasGreatestBegin initial ops v y → x ≡ y
     one_greatest v x y h k =
         let same : At y.begin ≡ At x.begin = k.1 ∙ sym h.1 in
-        one_holder ops moments x y (stands v x h.0) (stands v y k.0) x.begin (inl refl) (inl (let begin : y.begin ≡ x.begin = cc in begin))
+        one_holder ops moments x y (present v x h.0) (present v y k.0) x.begin (inl refl) (inl (let begin : y.begin ≡ x.begin = cc in begin))
 
     one_extremes : (u v : Value) (a : Option Op) (b : Op) (c : Option Op) (d : Op) (e : Option Op) (f : Op) (g : Option Op) (h : Op) → Conflicts (zone_of initial ops u) (zone_of initial ops v) → AreExtremes initial ops u v a b c d → AreExtremes initial ops u v e f g h → Same a b c d e f g h
     one_extremes u v a b c d e f g h conflict x y =

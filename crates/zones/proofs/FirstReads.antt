@@ -38,8 +38,8 @@ none_of P ops none = all_from (λ op. ¬ P op) ops (λ op h p. none (h.0, op, h.
 pub not_some : (P : Op → Type 0) (ops : List Op) → All (λ op. ¬ P op) ops → ¬ Any P ops
 not_some P ops none some = All-contains (λ op. ¬ P op) ops some.1 none (some.0, some.2, some.3) some.4
 
-pub some_stands : (P : Op → Type 0) (ops : List Op) → Any P ops → (w : Op) × Contains ops w × P w
-some_stands P ops some = (some.1, (some.0, some.2, some.3), some.4)
+pub some_present : (P : Op → Type 0) (ops : List Op) → Any P ops → (w : Op) × Contains ops w × P w
+some_present P ops some = (some.1, (some.0, some.2, some.3), some.4)
 
 Decides-unwritten : (initial : Value) (ops : List Op) (r : Op) → Decides (is_unwritten initial ops r) (IsUnwritten initial ops r)
 Decides-unwritten initial ops r =
@@ -104,7 +104,7 @@ module _ (test : Op → Bool) (Property : Op → Type 0) (decides : (r : Op) →
   least_first r e =
       let is = least_by-IsLeast end_number test ops r e in
       record {
-        stands = is.stands;
+        present = is.present;
         holds = (decides r).0 is.passes;
         first = All-weaker (λ other. IsTrue (test other) → end_number r ≤ end_number other) (λ other. Property other → end_number r ≤ end_number other) (λ other h p. h ((decides other).1 p)) ops is.least;
       }
@@ -119,12 +119,12 @@ module _ (test : Op → Bool) (Property : Op → Type 0) (decides : (r : Op) →
   first_least moments r is = by_cases (least_by end_number test ops) refl
     where
       by_cases : (found : Option Op) → least_by end_number test ops ≡ found → least_by end_number test ops ≡ Some r
-      by_cases None e = absurd (All-contains (λ r. ¬ Property r) ops r (least_none e) is.stands is.holds)
+      by_cases None e = absurd (All-contains (λ r. ¬ Property r) ops r (least_none e) is.present is.holds)
       by_cases (Some x) e =
           let other = least_first x e in
-          let after = All-contains (λ y. Property y → end_number x ≤ end_number y) ops r other.first is.stands is.holds in
-          let before = All-contains (λ y. Property y → end_number r ≤ end_number y) ops x is.first other.stands other.holds in
-          e ∙ ap Some (one_end ops moments x r other.stands is.stands (read x other.holds) (read r is.holds) (omega arith))
+          let after = All-contains (λ y. Property y → end_number x ≤ end_number y) ops r other.first is.present is.holds in
+          let before = All-contains (λ y. Property y → end_number r ≤ end_number y) ops x is.first other.present other.holds in
+          e ∙ ap Some (one_end ops moments x r other.present is.present (read x other.holds) (read r is.holds) (omega arith))
 
 unwritten_read : (initial : Value) (ops : List Op) (r : Op) → IsUnwritten initial ops r → IsJudgedRead r
 unwritten_read initial ops r u = u.read
@@ -171,21 +171,21 @@ module _ (ops : List Op) where
     where
       by_found : (found : Option Op) → find (is_late_for r) ops ≡ found → (w : Op) × (find (is_late_for r) ops ≡ Some w) × Contains ops w × IsEarly r w
       by_found None e =
-          let (w, stands, early) = some_stands (IsEarly r) ops h in
+          let (w, present, early) = some_present (IsEarly r) ops h in
           let passes : is_late_for r w ≡ true = (Decides-late r w).1 (late_of r w early) in
-          let fails : is_late_for r w ≡ false = All-contains (λ op. is_late_for r op ≡ false) ops w (find-None (is_late_for r) ops e) stands in
+          let fails : is_late_for r w ≡ false = All-contains (λ op. is_late_for r op ≡ false) ops w (find-None (is_late_for r) ops e) present in
           absurd (both_ways (is_late_for r w) fails passes)
       by_found (Some w) e =
-          let (stands, passes) = find-Some (is_late_for r) ops w e in
-          (w, e, stands, early_of r w (early_read ops r h) ((Decides-late r w).0 passes))
+          let (present, passes) = find-Some (is_late_for r) ops w e in
+          (w, e, present, early_of r w (early_read ops r h) ((Decides-late r w).0 passes))
 
   pub early_first : (r w : Op) → first_early ops ≡ Some (r, w) → IsFirstOf (HasLateWrite ops) ops r × Contains ops w × IsEarly r w
   early_first r w e = by_least earliest refl e
     where
       by_write : (x : Op) → earliest ≡ Some x → ((v : Op) × (find (is_late_for x) ops ≡ Some v) × Contains ops v × IsEarly x v) → with_late_write ops (Some x) ≡ Some (r, w) → IsFirstOf (HasLateWrite ops) ops r × Contains ops w × IsEarly r w
-      by_write x f (v, g, stands, early) e =
+      by_write x f (v, g, present, early) e =
           let (read, write) = same_pair x r v w (sym (ap (option_map (λ w. (x, w))) g) ∙ e) in
-          (subst (IsFirstOf (HasLateWrite ops) ops) read (earliest_first x f), subst (Contains ops) write stands, subst (λ (y : Op). IsEarly r y) write (subst (λ (y : Op). IsEarly y v) read early))
+          (subst (IsFirstOf (HasLateWrite ops) ops) read (earliest_first x f), subst (Contains ops) write present, subst (λ (y : Op). IsEarly r y) write (subst (λ (y : Op). IsEarly y v) read early))
 
       by_least : (found : Option Op) → earliest ≡ found → with_late_write ops found ≡ Some (r, w) → IsFirstOf (HasLateWrite ops) ops r × Contains ops w × IsEarly r w
       by_least None f e = absurd (cc)
@@ -200,10 +200,10 @@ module _ (ops : List Op) where
       by_cases (inr n) = absurd (n p q e)
 
   pub first_is_early : (r w : Op) → HasDistinctMoments ops → HasNoValueTwice ops → IsFirstOf (HasLateWrite ops) ops r → Contains ops w → IsEarly r w → first_early ops ≡ Some (r, w)
-  first_is_early r w moments apart is stands early =
+  first_is_early r w moments apart is present early =
       let least : earliest ≡ Some r = first_least (is_early ops) (HasLateWrite ops) (Decides-early ops) (early_read ops) ops moments r is in
       let (v, found, stood, late) = late_write r is.holds in
-      let same : v ≡ w = one_write apart v w stood stands late.write early.write (late.one_value ∙ sym early.one_value) in
+      let same : v ≡ w = one_write apart v w stood present late.write early.write (late.one_value ∙ sym early.one_value) in
       ap (with_late_write ops) least ∙ (ap (option_map (λ w. (r, w))) found ∙ ap (λ (w : Op). Some (r, w)) same)
 
   none_each : All (λ r. ¬ HasLateWrite ops r) ops → All (λ r. All (λ w. ¬ IsEarly r w) ops) ops
@@ -221,7 +221,7 @@ module _ (ops : List Op) where
       by_least : (found : Option Op) → earliest ≡ found → with_late_write ops found ≡ None → earliest ≡ None
       by_least None f e = f
       by_least (Some x) f e =
-          let (v, g, stands, early) = late_write x (earliest_first x f).holds in
+          let (v, g, present, early) = late_write x (earliest_first x f).holds in
           absurd (let gone : Some (x, v) ≡ None = sym (ap (option_map (λ w. (x, w))) g) ∙ e in cc)
 
 pub faultless_without_firsts : (initial : Value) (ops : List Op) → IsFaultless initial ops ↔ ((first_unwritten initial ops ≡ None) × (first_early ops ≡ None) × IsClean (zones_of initial ops))

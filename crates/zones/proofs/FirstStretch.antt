@@ -13,9 +13,9 @@ use Rattle.intervals.specs.Edit.{op_of}
 use Rattle.intervals.specs.Judging.{end_number}
 use Rattle.intervals.proofs.Ids.{found_by_id}
 use Rattle.intervals.specs.Terms.{ClaimModel}
-use Rattle.stretch_tree.specs.declared.stretch.Stretch.{Stretch}
-use Rattle.stretch_tree.specs.Order.{AreByEnd, moment_before}
-use Rattle.stretch_tree.specs.Look.{is_read_early, has_no_write, is_writeless_but}
+use Rattle.zone_tree.specs.declared.stretch.Stretch.{Stretch}
+use Rattle.zone_tree.specs.StretchOrder.{AreByEnd, moment_before}
+use Rattle.zone_tree.specs.StretchLook.{is_read_early, has_no_write, is_writeless_but}
 use Rattle.summary_tree.proofs.Lists.{none_found}
 use Rattle.zone_tree.specs.declared.edge.Edge.{Edge}
 use Rattle.zone_tree.specs.declared.edge.Edge.TheVariants.{At}
@@ -29,7 +29,7 @@ use Rattle.zones.specs.Members.{EndsFirstOf, HasNoRead, IsTheWriteAt, end_or_fir
 use Rattle.zones.specs.Zoned.{AreManyWriters}
 use Rattle.zones.proofs.Cluster.{edge_from_end, end_from_edge}
 use Rattle.zones.proofs.EdgeOrder.{AtMost, not_after_before}
-use Rattle.zones.proofs.FirstReads.{early_none, first_is_early, none_of, one_write, some_stands}
+use Rattle.zones.proofs.FirstReads.{early_none, first_is_early, none_of, one_write, some_present}
 use Rattle.zones.proofs.Writeless.{first_is_other, first_is_writeless, other_none, writeless_none}
 use Rattle.zones.proofs.Members.{Decides-same_value, all_from, contains_cases, here, pairs_head, pairs_tail, there}
 use Rattle.zones.proofs.Stretches.{BeginCases, at_most_ended, at_write, begin, begin_cases, end_of_read, first_at_most, first_end_is, first_of_reads, never_written, no_write_at, written}
@@ -71,11 +71,11 @@ IsFirstByName ops v read = EndsFirstOf ops v (end_or_first read) read.id × (op_
 
 module _ (claim : ClaimModel) (ops : List Op) (apart : AreManyWriters claim ops) where
   one_at : (v : Value) (a b : Op) → IsTheWriteAt ops v a → IsTheWriteAt ops v b → a ≡ b
-  one_at v a b p q = one_write ops (apart.kept.values apart.atomic).apart a b p.stands q.stands p.write q.write (p.same ∙ sym q.same)
+  one_at v a b p q = one_write ops (apart.kept.values apart.atomic).apart a b p.present q.present p.write q.write (p.same ∙ sym q.same)
 
   -- the read that ended first is the one of its id
   same_read : (v : Value) (read : Op) → (is : IsFirstByName ops v read) → (is.0).read ≡ read
-  same_read v read (is, named) = let same : Some is.read ≡ Some read = sym (found_by_id ops is.read apart.kept.ids is.stands) ∙ (ap (op_of ops) is.named ∙ named) in cc
+  same_read v read (is, named) = let same : Some is.read ≡ Some read = sym (found_by_id ops is.read apart.kept.ids is.present) ∙ (ap (op_of ops) is.named ∙ named) in cc
 
   read_of : (r : Op) → Contains ops r → IsJudgedRead r → IsRead ops (value_of r.act)
   read_of r h j = (r, h, j, refl)
@@ -99,7 +99,7 @@ module _ (claim : ClaimModel) (ops : List Op) (apart : AreManyWriters claim ops)
   -- the value of an early read is at fault too, and written
   early_write : (r w : Op) → Contains ops w → IsEarly r w → (begin ops (value_of r.act) ≡ At w.begin) × (written ops (value_of r.act) ≡ true)
   early_write r w h e =
-      let is : IsTheWriteAt ops (value_of r.act) w = record { stands = h; write = e.write; same = e.one_value } in
+      let is : IsTheWriteAt ops (value_of r.act) w = record { present = h; write = e.write; same = e.one_value } in
       at_write ops (value_of r.act) w is (λ x at. one_at (value_of r.act) x w at is)
 
   early_at_fault : (r w : Op) → Contains ops r → Contains ops w → IsEarly r w → IsAtFault claim ops (value_of r.act)
@@ -171,7 +171,7 @@ module _ (claim : ClaimModel) (ops : List Op) (apart : AreManyWriters claim ops)
       first_shown order s e end id is p =
           let (h, t, least) = first_found test stretches s order e in
           record {
-            stands = is.stands;
+            present = is.present;
             holds = p;
             first = all_from (λ other. Property other → end_number is.read ≤ end_number other) ops (λ x k q. ended_first h least x k q);
           }
@@ -269,13 +269,13 @@ module _ (claim : ClaimModel) (ops : List Op) (apart : AreManyWriters claim ops)
           by_found (Some s) e = let (r, f) = some_other order s e in ap is_some (sym f)
 
     late_at_fault : (r : Op) → Contains ops r → HasLateWrite ops r → IsAtFault claim ops (value_of r.act)
-    late_at_fault r h late = let (w, k, e) = some_stands (IsEarly r) ops late in early_at_fault r w h k e
+    late_at_fault r h late = let (w, k, e) = some_present (IsEarly r) ops late in early_at_fault r w h k e
 
     late_passes : (r : Op) → Contains ops r → HasLateWrite ops r → is_read_early (stretch_of ops (value_of r.act)) ≡ true
-    late_passes r h late = let (w, k, early) = some_stands (IsEarly r) ops late in (early_write r w k early).1
+    late_passes r h late = let (w, k, early) = some_present (IsEarly r) ops late in (early_write r w k early).1
 
     late_read : (r : Op) → HasLateWrite ops r → IsJudgedRead r
-    late_read r late = let (w, k, early) = some_stands (IsEarly r) ops late in early.read
+    late_read r late = let (w, k, early) = some_present (IsEarly r) ops late in early.read
 
     late_of : (r w : Op) → Contains ops w → IsEarly r w → HasLateWrite ops r
     late_of r w h early = (h.0, w, h.1, h.2, early)
@@ -292,7 +292,7 @@ module _ (claim : ClaimModel) (ops : List Op) (apart : AreManyWriters claim ops)
           w,
           at,
           first_is_early ops is.read w apart.kept.moments (apart.kept.values apart.atomic).apart
-              (first_shown is_read_early (HasLateWrite ops) late_read late_at_fault late_passes order s e end id is (late_of is.read w at.stands early)) at.stands early,
+              (first_shown is_read_early (HasLateWrite ops) late_read late_at_fault late_passes order s e end id is (late_of is.read w at.present early)) at.present early,
         )
 
     pub first_read_early : AreByEnd stretches → (s : Stretch) → find is_read_early stretches ≡ Some s → (read : Op) → IsFirstByName ops s.value read → (w : Op) → IsTheWriteAt ops s.value w → Some (read, w) ≡ first_early ops

@@ -19,7 +19,7 @@ use Rattle.zones.specs.Members.{HasWrite}
 use Rattle.zones.specs.Zoned.{AreManyWriters, AreZoned, IsZoneAt, MayStart, is_that}
 use Rattle.zones.proofs.Cluster.{edges_in_order}
 use Rattle.zones.proofs.EdgesOf.{found_where_written}
-use Rattle.zones.proofs.InTree.{behind_once, by_left_behind, carried, has_write, stands_before, zones_each_once}
+use Rattle.zones.proofs.InTree.{after_once, by_left_after, carried, has_write, present_before, zones_each_once}
 use Rattle.zones.proofs.Members.{Decides-same_value, contains_cases, here, there}
 use Rattle.zones.proofs.Start.{conflict_written, initial_not_written, start_not_written}
 use Rattle.zones.proofs.Stretches.{no_write_at}
@@ -40,10 +40,10 @@ module _ (claim : ClaimModel) (ops : List Op) (apart : AreManyWriters claim ops)
     front_in_order = subst HasOrderedEdges (sym front_is) (edges_in_order v ops v)
 
     pub front_before : All (λ z. ComesBefore front.left z.left) tree
-    front_before = subst (λ (x : Zone). All (λ z. ComesBefore x.left z.left) tree) (sym front_is) (stands_before v ops tree zoned)
+    front_before = subst (λ (x : Zone). All (λ z. ComesBefore x.left z.left) tree) (sym front_is) (present_before v ops tree zoned)
 
     whole : IsPermutation (zones_of v ops) (front ∷ tree)
-    whole = subst (λ (x : Zone). IsPermutation (zones_of v ops) (x ∷ tree)) (sym front_is) (behind_once v ops tree none_written once)
+    whole = subst (λ (x : Zone). IsPermutation (zones_of v ops) (x ∷ tree)) (sym front_is) (after_once v ops tree none_written once)
 
     pub clean_with : (P : Type 0) → P ↔ IsClean (front ∷ tree) → P ↔ IsClean (zones_from (initial_of claim ops) ops)
     clean_with P c = subst (λ (i : Option Value). P ↔ IsClean (zones_from i ops)) (sym is) (clean_in (Some v) ops (front ∷ tree) whole P c)
@@ -52,7 +52,7 @@ module _ (claim : ClaimModel) (ops : List Op) (apart : AreManyWriters claim ops)
     conflict_with found c =
         subst (λ (i : Option Value). IfSome found (λ pair. HasFirstConflictFrom i ops pair.0 pair.1)) (sym is)
         (conflict_in (Some v) ops (front ∷ tree) whole found
-        (subst (λ (x : Zone). IsByLeft (x ∷ tree)) (sym front_is) (by_left_behind v ops tree zoned order.by_left)) c)
+        (subst (λ (x : Zone). IsByLeft (x ∷ tree)) (sym front_is) (by_left_after v ops tree zoned order.by_left)) c)
 
   -- where there is none
   module _ (is : initial_of claim ops ≡ None) where
@@ -86,7 +86,7 @@ module _ (claim : ClaimModel) (ops : List Op) (apart : AreManyWriters claim ops)
   zone_written None is = tt
   zone_written (Some zone) is =
       let (w, at) = is.some refl in
-      is.zone ∙ sym (written_zone_is (start_of claim ops) ops v (λ e. no_write_at ops (start_of claim ops) (start_not_written claim ops (apart.kept.values apart.atomic)) w (record { stands = at.stands; write = at.write; same = at.same ∙ e })))
+      is.zone ∙ sym (written_zone_is (start_of claim ops) ops v (λ e. no_write_at ops (start_of claim ops) (start_not_written claim ops (apart.kept.values apart.atomic)) w (record { present = at.present; write = at.write; same = at.same ∙ e })))
 
   pub found_from : is_that (initial_of claim ops) v ≡ false → (found : Option Zone) → IsZoneAt ops v found → IsSome found ↔ Contains (values_from (initial_of claim ops) ops) v
   found_from other found is = by_initial (initial_of claim ops) other
@@ -111,11 +111,11 @@ module _ (claim : ClaimModel) (ops : List Op) (apart : AreManyWriters claim ops)
       by_initial None e zones once k =
           let (w, at) = conflict_written ops z zones (subst (λ (o : Option Value). IsPermutation (zones_from o ops) zones) e once) k in
           subst (λ (o : Option Value). MayStart o (start_of claim ops) z.value) (sym e)
-          (λ f. no_write_at ops (start_of claim ops) (start_not_written claim ops (apart.kept.values apart.atomic)) w (record { stands = at.stands; write = at.write; same = at.same ∙ f }))
+          (λ f. no_write_at ops (start_of claim ops) (start_not_written claim ops (apart.kept.values apart.atomic)) w (record { present = at.present; write = at.write; same = at.same ∙ f }))
       by_initial (Some v) e zones once k = subst (λ (o : Option Value). MayStart o (start_of claim ops) z.value) (sym e) (ap (or_fresh ops) e)
 
   pub first_may : MayStart (initial_of claim ops) (start_of claim ops) first.value
-  first_may = may first (subst (λ (zones : List Zone). Contains zones first) (sym h.conflict.parts) (Contains-append_left h.conflict.earlier (second ∷ h.conflict.later) first h.conflict.farthest.stands))
+  first_may = may first (subst (λ (zones : List Zone). Contains zones first) (sym h.conflict.parts) (Contains-append_left h.conflict.earlier (second ∷ h.conflict.later) first h.conflict.farthest.present))
 
   pub second_may : MayStart (initial_of claim ops) (start_of claim ops) second.value
   second_may = may second (subst (λ (zones : List Zone). Contains zones second) (sym h.conflict.parts) (Contains-append_right h.conflict.earlier (second ∷ h.conflict.later) second (here second h.conflict.later)))

@@ -22,7 +22,7 @@ use Rattle.zones.specs.AtFirst.{unused_value}
 use Rattle.zones.specs.Cluster.{zone_of, written_zone, values_from, zones_from, zones_of}
 use Rattle.zones.specs.Members.{HasWrite}
 use Rattle.zones.specs.Zoned.{AreZoned}
-use Rattle.zones.proofs.Members.{all_from, here, there, in_none, contains_cases, kept, kept_stands, mapped, pairs_head, pairs_tail}
+use Rattle.zones.proofs.Members.{all_from, here, there, in_none, contains_cases, kept, kept_present, mapped, pairs_head, pairs_tail}
 use Rattle.zones.proofs.Edited.{from_map}
 use Rattle.zones.proofs.Excluded.{zones_apart}
 use Rattle.zones.proofs.Cluster.{EdgeIn, left, left_in, left_initial}
@@ -61,7 +61,7 @@ each_once (a ∷ zones) tree apart order each only =
     by_cases z t (inr h) = h
 
     stood : (z : Zone) → Contains (without_zone_at a.left tree) z → Contains zones z
-    stood z h = let (k, t) = kept_stands (λ x. not (same_edge x.left a.left)) tree z h in by_cases z t (contains_cases a zones z (only z k))
+    stood z h = let (k, t) = kept_present (λ x. not (same_edge x.left a.left)) tree z h in by_cases z t (contains_cases a zones z (only z k))
 
     is_first : (z : Zone) → z.left ≡ a.left → (a ≡ z) ⊎ Contains zones z → z ≡ a
     is_first z e (inl f) = sym f
@@ -87,25 +87,25 @@ same_image f g (x ∷ xs) same = let rest = same_image f g xs (λ y h. same y (t
 pub has_write : (ops : List Op) (v : Value) → Contains (values_from None ops) v → HasWrite ops v
 has_write ops v h =
     let (w, k, e) = from_map (λ w. value_of w.act) (writes ops) v h in
-    let (stands, write) = kept_stands is_write ops w k in (w, record { stands = stands; write = write; same = e })
+    let (present, write) = kept_present is_write ops w k in (w, record { present = present; write = write; same = e })
 
 pub carried : (ops : List Op) (v : Value) → HasWrite ops v → Contains (values_from None ops) v
 carried ops v (w, is) =
-    subst (Contains (values_from None ops)) is.same (mapped (λ w. value_of w.act) (writes ops) w (kept is_write ops w is.stands is.write))
+    subst (Contains (values_from None ops)) is.same (mapped (λ w. value_of w.act) (writes ops) w (kept is_write ops w is.present is.write))
 
 -- where no write has the initial value its zone comes before those of the writes
-pub zones_behind : (initial : Value) (ops : List Op) → HasNoWrite ops initial → zones_of initial ops ≡ zone_of initial ops initial ∷ zones_from None ops
-zones_behind initial ops none =
+pub zones_following : (initial : Value) (ops : List Op) → HasNoWrite ops initial → zones_of initial ops ≡ zone_of initial ops initial ∷ zones_from None ops
+zones_following initial ops none =
     ap (λ (zones : List Zone). zone_of initial ops initial ∷ zones)
     (same_image (zone_of initial ops) (written_zone ops) (values_from None ops) (λ v h.
     let (w, is) = has_write ops v h in
-    written_zone_is initial ops v (λ e. All-contains (λ w. IsWrite w → value_of w.act ≢ initial) ops w none is.stands is.write (is.same ∙ e))))
+    written_zone_is initial ops v (λ e. All-contains (λ w. IsWrite w → value_of w.act ≢ initial) ops w none is.present is.write (is.same ∙ e))))
 
 written_apart : (ops : List Op) → HasDistinctMoments ops → HasNoValueTwice ops → AllPairs Apart (zones_from None ops)
 written_apart ops moments apart =
     let i = unused_value ops in
     pairs_tail Apart (zone_of i ops i) (zones_from None ops)
-    (subst (AllPairs Apart) (zones_behind i ops (fresh_not_written ops)) (zones_apart i ops moments (record { apart = apart; new = fresh_not_written ops })))
+    (subst (AllPairs Apart) (zones_following i ops (fresh_not_written ops)) (zones_apart i ops moments (record { apart = apart; new = fresh_not_written ops })))
 
 pub zones_each_once : (ops : List Op) (tree : List Zone) → HasDistinctMoments ops → HasNoValueTwice ops → StandInOrder tree → AreZoned ops tree → IsPermutation (zones_from None ops) tree
 zones_each_once ops tree moments apart order zoned =
@@ -117,7 +117,7 @@ zones_each_once ops tree moments apart order zoned =
 pub begins_later : (ops : List Op) (v : Value) → HasWrite ops v → ComesBefore Before (written_zone ops v).left
 begins_later ops v (w, is) =
     let i = unused_value ops in
-    let n : v ≢ i = λ e. fresh_is_new ops w is.stands (is.same ∙ e) in
+    let n : v ≢ i = λ e. fresh_is_new ops w is.present (is.same ∙ e) in
     subst (λ (z : Zone). ComesBefore Before z.left) (written_zone_is i ops v n)
     (by_edge i n (left i ops v) (left_in i ops v w (write_member i ops v w is)))
   where
@@ -127,15 +127,15 @@ begins_later ops v (w, is) =
     by_edge i n Never is = absurd is
 
 -- the initial zone before those of a tree gives each zone of the register once
-pub behind_once : (initial : Value) (ops : List Op) (tree : List Zone) → HasNoWrite ops initial → IsPermutation (zones_from None ops) tree → IsPermutation (zones_of initial ops) (zone_of initial ops initial ∷ tree)
-behind_once initial ops tree none once =
-    subst (λ (zones : List Zone). IsPermutation zones (zone_of initial ops initial ∷ tree)) (sym (zones_behind initial ops none))
+pub after_once : (initial : Value) (ops : List Op) (tree : List Zone) → HasNoWrite ops initial → IsPermutation (zones_from None ops) tree → IsPermutation (zones_of initial ops) (zone_of initial ops initial ∷ tree)
+after_once initial ops tree none once =
+    subst (λ (zones : List Zone). IsPermutation zones (zone_of initial ops initial ∷ tree)) (sym (zones_following initial ops none))
     (IsPermutation-cons (zone_of initial ops initial) (zones_from None ops) tree once)
 
-pub stands_before : (initial : Value) (ops : List Op) (tree : List Zone) → AreZoned ops tree → All (λ z. ComesBefore (zone_of initial ops initial).left z.left) tree
-stands_before initial ops tree zoned = all_from (λ z. ComesBefore (zone_of initial ops initial).left z.left) tree (λ z h.
+pub present_before : (initial : Value) (ops : List Op) (tree : List Zone) → AreZoned ops tree → All (λ z. ComesBefore (zone_of initial ops initial).left z.left) tree
+present_before initial ops tree zoned = all_from (λ z. ComesBefore (zone_of initial ops initial).left z.left) tree (λ z h.
     let (has, e) = zoned.only z h in
     subst (λ (a : Edge). ComesBefore a z.left) (sym (left_initial initial ops)) (subst (λ (x : Zone). ComesBefore Before x.left) (sym e) (begins_later ops z.value has)))
 
-pub by_left_behind : (initial : Value) (ops : List Op) (tree : List Zone) → AreZoned ops tree → IsByLeft tree → IsByLeft (zone_of initial ops initial ∷ tree)
-by_left_behind initial ops tree zoned by_left = AllPairs-cons (λ a b. ComesBefore a.left b.left) (zone_of initial ops initial) tree (stands_before initial ops tree zoned) by_left
+pub by_left_after : (initial : Value) (ops : List Op) (tree : List Zone) → AreZoned ops tree → IsByLeft tree → IsByLeft (zone_of initial ops initial ∷ tree)
+by_left_after initial ops tree zoned by_left = AllPairs-cons (λ a b. ComesBefore a.left b.left) (zone_of initial ops initial) tree (present_before initial ops tree zoned) by_left

@@ -20,7 +20,7 @@ use Rattle.zones.specs.Cluster.{edge_of_end, least_end_of, greatest_begin_of, zo
 use Rattle.zones.specs.Fault.{IsUnwritten, IsEarly, IsFaultless}
 use Rattle.zones.specs.Turn.{left_of, StandInTurn, IsInTurn}
 use Rattle.zones.proofs.EdgeOrder.{AtMost, at_most_transitive, at_most_both, before_all, before_irreflexive, before_not_after, not_after_before}
-use Rattle.zones.proofs.Members.{value_cases, here, there, in_none, contains_cases, kept, kept_stands, all_from, mapped, pair_of, by_recursion_from, from_recursion}
+use Rattle.zones.proofs.Members.{value_cases, here, there, in_none, contains_cases, kept, kept_present, all_from, mapped, pair_of, by_recursion_from, from_recursion}
 use Rattle.zones.proofs.Cluster.{edge_from_end, EdgeIn, left, left_in, left_initial, left_is, left_at_most_least, left_at_most_greatest, least_at_most, greatest_at_least, settle, value_is, conflict_is}
 use Rattle.zones.proofs.Judged.{is_judged, judged_write, is_judged_by_end}
 
@@ -47,11 +47,11 @@ ends_late None b c h p le = p
 ends_late (Some end) b c h p le = omega arith
 
 module _ (initial : Value) (ops : List Op) (moments : HasDistinctMoments ops) (ends : HasEndsAfterBeginnings ops) (faultless : IsFaultless initial ops) where
-  stands : (x : Op) → Contains (judged ops) x → Contains ops x
-  stands x h = (kept_stands is_judged ops x h).0
+  present : (x : Op) → Contains (judged ops) x → Contains ops x
+  present x h = (kept_present is_judged ops x h).0
 
   is_read : (r : Op) → Contains (judged ops) r → is_write r ≡ false → IsJudgedRead r
-  is_read r h f = is_judged_by_end (is_write r) (is_some r.end) (kept_stands is_judged ops r h).1 f
+  is_read r h f = is_judged_by_end (is_write r) (is_some r.end) (kept_present is_judged ops r h).1 f
 
   -- the value of a judged read is the initial one or that of a write
   written : (r : Op) → Contains (judged ops) r → is_write r ≡ false → (value_of r.act ≡ initial) ⊎ ((w : Op) × Contains ops w × IsWrite w × (value_of w.act ≡ value_of r.act))
@@ -61,7 +61,7 @@ module _ (initial : Value) (ops : List Op) (moments : HasDistinctMoments ops) (e
       by_cases (inl e) c = inl e
       by_cases (inr n) (inl w) = inr w
       by_cases (inr n) (inr none) =
-          absurd (All-contains (λ r. ¬ IsUnwritten initial ops r) ops r faultless.written (stands r h) (record {
+          absurd (All-contains (λ r. ¬ IsUnwritten initial ops r) ops r faultless.written (present r h) (record {
             read = is_read r h f;
             not_initial = n;
             not_written = all_from (λ w. IsWrite w → value_of w.act ≢ value_of r.act) ops none;
@@ -79,7 +79,7 @@ module _ (initial : Value) (ops : List Op) (moments : HasDistinctMoments ops) (e
       by_value (inr (w, k, t, e)) = subst (λ (v : Value). Contains (written_values initial ops) v) e (write_has_zone w k t)
 
       by_act : (is_write x ≡ true) ⊎ (is_write x ≡ false) → Contains (written_values initial ops) (value_of x.act)
-      by_act (inl t) = write_has_zone x (stands x h) t
+      by_act (inl t) = write_has_zone x (present x h) t
       by_act (inr f) = by_value (written x h f)
 
   apart : (x y : Op) → Contains (judged ops) x → Contains (judged ops) y → value_of x.act ≢ value_of y.act → ¬ Conflicts (zone_of initial ops (value_of x.act)) (zone_of initial ops (value_of y.act))
@@ -97,12 +97,12 @@ module _ (initial : Value) (ops : List Op) (moments : HasDistinctMoments ops) (e
     where
       by_moments : is_write x ≡ is_write y → ⊥
       by_moments same =
-          ends_late y.end x.begin y.begin (All-contains (λ op. IfSome op.end (λ end. op.begin.0 < end.0)) ops y ends (stands y k)) p (s.by_beginning e same)
+          ends_late y.end x.begin y.begin (All-contains (λ op. IfSome op.end (λ end. op.begin.0 < end.0)) ops y ends (present y k)) p (s.by_beginning e same)
 
       by_acts : (is_write x ≡ true) ⊎ (is_write x ≡ false) → (is_write y ≡ true) ⊎ (is_write y ≡ false) → ⊥
       by_acts (inl t) (inl u) = by_moments (t ∙ sym u)
       by_acts (inl t) (inr g) =
-          All-contains (λ w. ¬ IsEarly y w) ops x (All-contains (λ r. All (λ w. ¬ IsEarly r w) ops) ops y faultless.timely (stands y k)) (stands x h)
+          All-contains (λ w. ¬ IsEarly y w) ops x (All-contains (λ r. All (λ w. ¬ IsEarly r w) ops) ops y faultless.timely (present y k)) (present x h)
           (record { read = is_read y k g; write = t; one_value = e; ends_before = p })
       by_acts (inr f) (inl u) = let x : true ≡ false = sym (s.write_first e u) ∙ f in absurd (cc)
       by_acts (inr f) (inr g) = by_moments (f ∙ sym g)

@@ -20,7 +20,7 @@ use Rattle.zone_tree.specs.declared.edge.Edge.TheVariants.{Before, At, Never}
 use Rattle.zone_tree.specs.contracts.edge.EdgeOrd.TheImpl as edge_ord
 use Rattle.zone_tree.specs.Edge.{ComesBefore}
 use Rattle.zones.specs.declared.order.TurnKey.{TurnKey}
-use Rattle.zones.specs.declared.order.Placed.{Placed}
+use Rattle.zones.specs.declared.order.OpInTurn.{OpInTurn}
 use Rattle.zones.specs.contracts.order.TurnKeyOrd.TheImpl as turn_ord
 use Rattle.zones.specs.contracts.order.TurnKeyOrd.TheImpl.Laws.{total-law}
 use Rattle.zones.specs.Cluster.{zone_of, written_values}
@@ -30,7 +30,7 @@ use Rattle.zones.specs.Order.{turn_of, placed_of}
 use Rattle.zones.proofs.Judged.{is_judged, is_judged_by_end}
 use Rattle.zones.proofs.Members.{value_cases, pairs_head, pairs_tail, pairs_mapped, all_from}
 use Rattle.zones.proofs.Written.{written_initial, written_by}
-use Rattle.zones.proofs.FirstReads.{IsWriteFor, Decides-write_of, some_stands, none_of}
+use Rattle.zones.proofs.FirstReads.{IsWriteFor, Decides-write_of, some_present, none_of}
 
 -- the derived order of edges
 abbrev edge_cmp : Edge → Edge → Ordering
@@ -58,8 +58,8 @@ module _ (initial : Value) (ops : List Op) where
     where
       by_write : (list_any (is_write_of r) ops ≡ true) ⊎ (list_any (is_write_of r) ops ≡ false) → initial ≢ value_of r.act → Contains (written_values initial ops) (value_of r.act)
       by_write (inl t) m =
-          let (w, h, for) = some_stands (IsWriteFor r) ops ((Decides-list_any (is_write_of r) (IsWriteFor r) (Decides-write_of r) ops).0 t) in
-          written_by initial ops (value_of r.act) w (record { stands = h; write = for.0; same = for.1 })
+          let (w, h, for) = some_present (IsWriteFor r) ops ((Decides-list_any (is_write_of r) (IsWriteFor r) (Decides-write_of r) ops).0 t) in
+          written_by initial ops (value_of r.act) w (record { present = h; write = for.0; same = for.1 })
       by_write (inr g) m =
           let none = not_from_Decides (list_any (is_write_of r) ops) (Decides-list_any (is_write_of r) (IsWriteFor r) (Decides-write_of r) ops) g in
           absurd (n (record {
@@ -76,7 +76,7 @@ module _ (initial : Value) (ops : List Op) where
   has_write faultless op h j = by_act (cases_Bool (is_write op))
     where
       by_act : (is_write op ≡ true) ⊎ (is_write op ≡ false) → Contains (written_values initial ops) (value_of op.act)
-      by_act (inl t) = written_by initial ops (value_of op.act) op (record { stands = h; write = t; same = refl })
+      by_act (inl t) = written_by initial ops (value_of op.act) op (record { present = h; write = t; same = refl })
       by_act (inr f) = of_read op (All-contains (λ r. ¬ IsUnwritten initial ops r) ops op faultless.written h) j f
 
 -- the derived order of the keys
@@ -130,32 +130,32 @@ module _ (initial : Value) (ops : List Op) where
     in_turn_from later (pairs_tail (StandInTurn initial ops) x later pairs),
   )
 
-  operations : (xs : List Op) → map (λ (p : Placed). p.op) (map (placed_of initial ops) xs) ≡ xs
+  operations : (xs : List Op) → map (λ (p : OpInTurn). p.op) (map (placed_of initial ops) xs) ≡ xs
   operations [] = refl
   operations (x ∷ xs) = ap (λ ys. x ∷ ys) (operations xs)
 
-  module _ (placed sorted : List Placed) (is : placed ≡ map (placed_of initial ops) (judged ops)) (moved : IsPermutation placed sorted) where
-    pub each_once : IsPermutation (judged ops) (map (λ (p : Placed). p.op) sorted)
+  module _ (placed sorted : List OpInTurn) (is : placed ≡ map (placed_of initial ops) (judged ops)) (moved : IsPermutation placed sorted) where
+    pub each_once : IsPermutation (judged ops) (map (λ (p : OpInTurn). p.op) sorted)
     each_once =
-        subst (λ (xs : List Op). IsPermutation xs (map (λ (p : Placed). p.op) sorted)) (ap (map (λ (p : Placed). p.op)) is ∙ operations (judged ops))
-        (IsPermutation-map (λ (p : Placed). p.op) placed sorted moved)
+        subst (λ (xs : List Op). IsPermutation xs (map (λ (p : OpInTurn). p.op) sorted)) (ap (map (λ (p : OpInTurn). p.op)) is ∙ operations (judged ops))
+        (IsPermutation-map (λ (p : OpInTurn). p.op) placed sorted moved)
 
     -- the key is that of the operation
-    abbrev HasTurn : Placed → Type 0
+    abbrev HasTurn : OpInTurn → Type 0
     HasTurn p = p.turn ≡ turn_of initial ops p.op
 
     turns : All HasTurn sorted
     turns = All-permutation HasTurn placed sorted moved (subst (All HasTurn) (sym is) (All-map HasTurn (placed_of initial ops) (judged ops) (λ k d lt. refl)))
 
-    pub sorted_in_turn : IsSortedByKey (λ (p : Placed). p.turn) turn_cmp sorted → IsInTurn initial ops (map (λ (p : Placed). p.op) sorted)
+    pub sorted_in_turn : IsSortedByKey (λ (p : OpInTurn). p.turn) turn_cmp sorted → IsInTurn initial ops (map (λ (p : OpInTurn). p.op) sorted)
     sorted_in_turn up =
-        in_turn_from (map (λ (p : Placed). p.op) sorted)
-        (pairs_mapped (λ (p : Placed). p.op) HasTurn (λ p q. NotLess p.turn q.turn) (StandInTurn initial ops)
+        in_turn_from (map (λ (p : OpInTurn). p.op) sorted)
+        (pairs_mapped (λ (p : OpInTurn). p.op) HasTurn (λ p q. NotLess p.turn q.turn) (StandInTurn initial ops)
         (λ p q e f n. stand p.op q.op (subst (λ (t : TurnKey). NotLess t (turn_of initial ops q.op)) e (subst (NotLess p.turn) f n)))
         sorted turns
-        (λ i j d lt within. sorted_far (λ (p q : Placed). is_lt (turn_cmp p.turn q.turn)) (ranks_by total-law (λ (p : Placed). p.turn)) sorted up i j d (omega arith) within))
+        (λ i j d lt within. sorted_far (λ (p q : OpInTurn). is_lt (turn_cmp p.turn q.turn)) (ranks_by total-law (λ (p : OpInTurn). p.turn)) sorted up i j d (omega arith) within))
 
 -- the ids of the operations
-pub named : (placed : List Placed) → map (λ (p : Placed). p.op.id) placed ≡ map (λ (op : Op). op.id) (map (λ (p : Placed). p.op) placed)
+pub named : (placed : List OpInTurn) → map (λ (p : OpInTurn). p.op.id) placed ≡ map (λ (op : Op). op.id) (map (λ (p : OpInTurn). p.op) placed)
 named [] = refl
 named (p ∷ placed) = ap (λ ids. p.op.id ∷ ids) (named placed)

@@ -56,9 +56,9 @@ length_filter_less p (y ∷ xs) x h f = by_cases (p y) refl (contains_cases y xs
     by_cases false t h later = omega (arith, length_filter p xs)
 
 length_gone : (found : Option Zone) (zones : List Zone) → IsThere zones found → length (without zone_shape found zones) + 1 ≤ length zones
-length_gone None zones stands = absurd stands
-length_gone (Some zone) zones stands =
-    length_filter_less (λ z. not (same_edge z.left zone.left)) zones zone stands (ap not ((Decides-same_edge zone.left zone.left).1 refl))
+length_gone None zones present = absurd present
+length_gone (Some zone) zones present =
+    length_filter_less (λ z. not (same_edge z.left zone.left)) zones zone present (ap not ((Decides-same_edge zone.left zone.left).1 refl))
 
 -- where no more zones come than go there are no more
 pub kept_length : (gone come : Option Zone × Option Zone) (zones result : List Zone) → KeepsRoom zones gone come → result ≡ moved zone_shape gone come zones → length result ≤ length zones
@@ -78,19 +78,19 @@ kept_length gone come zones result keeps is = by_cases come.0 refl
         let none : result ≡ twice = one ∙ ap (λ (c : Option Zone). with zone_shape c twice) e in
         omega (arith, ap length none, length_without gone.1 once, length_without gone.0 zones)
     by_cases (Some zone) e =
-        let stands : IsThere zones gone.0 = keeps.one (ap is_some e) in
-        omega (arith, ap length one, length_with come.0 twice, length_without gone.1 once, length_gone gone.0 zones stands)
+        let present : IsThere zones gone.0 = keeps.one (ap is_some e) in
+        omega (arith, ap length one, length_with come.0 twice, length_without gone.1 once, length_gone gone.0 zones present)
 
 -- where a zone goes that is there and nothing comes there are fewer
 pub gone_length : (gone come : Option Zone × Option Zone) (zones result : List Zone) → IsThere zones gone.0 → come.0 ≡ None → come.1 ≡ None → result ≡ moved zone_shape gone come zones → length result + 1 ≤ length zones
-gone_length gone come zones result stands first second is =
+gone_length gone come zones result present first second is =
     let once = without zone_shape gone.0 zones in
     let twice = without zone_shape gone.1 once in
     let none : result ≡ twice =
     is
     ∙ (ap (λ (c : Option Zone). with zone_shape c (with zone_shape come.0 twice)) second ∙ ap (λ (c : Option Zone). with zone_shape c twice) first)
     in
-    omega (arith, ap length none, length_without gone.1 once, length_gone gone.0 zones stands)
+    omega (arith, ap length none, length_without gone.1 once, length_gone gone.0 zones present)
 
 -- there are two more zones at most
 pub more_length : (gone come : Option Zone × Option Zone) (zones result : List Zone) → result ≡ moved zone_shape gone come zones → length result ≤ length zones + 2

@@ -46,7 +46,7 @@ module _ (ops : List Op) (value : Value) (shelf : OrderedIndex) where
         let (w, same, f) = ended op (spot_of value end) s in
         record {
           read = op;
-          stands = h;
+          present = h;
           judged = is_judged_read-from op w (ap is_some f);
           same = same;
           named = named;
@@ -83,7 +83,7 @@ module _ (ops : List Op) (value : Value) (shelf : OrderedIndex) where
         let (w, same, f, ends) = begun op (spot_of value begin) s in
         record {
           read = op;
-          stands = h;
+          present = h;
           judged = is_judged_read-from op w ends;
           same = same;
           named = named;

@@ -44,13 +44,13 @@ module _ {X : Type 0} where
   contains_cases a xs x h = place_cases a xs x h.0 h.1 h.2
 
   -- the list contains the element at an index
-  pub stands_at : (xs : List X) (k : ℕ) (d : X) → k < length xs → Contains xs (slice_index_or xs k d)
-  stands_at [] k d lt = absurd (omega arith)
-  stands_at (a ∷ xs) zero d lt = (0, omega arith, refl)
-  stands_at (a ∷ xs) (suc k) d lt = there a xs (slice_index_or xs k d) (stands_at xs k d (omega arith))
+  pub present_at : (xs : List X) (k : ℕ) (d : X) → k < length xs → Contains xs (slice_index_or xs k d)
+  present_at [] k d lt = absurd (omega arith)
+  present_at (a ∷ xs) zero d lt = (0, omega arith, refl)
+  present_at (a ∷ xs) (suc k) d lt = there a xs (slice_index_or xs k d) (present_at xs k d (omega arith))
 
   pub all_from : (P : X → Type 0) (xs : List X) → ((x : X) → Contains xs x → P x) → All P xs
-  all_from P xs each k d lt = each (slice_index_or xs k d) (stands_at xs k d lt)
+  all_from P xs each k d lt = each (slice_index_or xs k d) (present_at xs k d lt)
 
   pub by_recursion_from : (P : X → Type 0) (xs : List X) → ((x : X) → Contains xs x → P x) → AllByRecursion P xs
   by_recursion_from P [] each = tt
@@ -75,9 +75,9 @@ module _ {X : Type 0} where
         by_cases (inr h) true s rest = there a (filter test xs) x (rest h)
         by_cases (inr h) false s rest = rest h
 
-    pub kept_stands : (xs : List X) (x : X) → Contains (filter test xs) x → Contains xs x × (test x ≡ true)
-    kept_stands [] x h = absurd (in_none x h)
-    kept_stands (a ∷ xs) x h = by_cases (test a) refl h (kept_stands xs x)
+    pub kept_present : (xs : List X) (x : X) → Contains (filter test xs) x → Contains xs x × (test x ≡ true)
+    kept_present [] x h = absurd (in_none x h)
+    kept_present (a ∷ xs) x h = by_cases (test a) refl h (kept_present xs x)
       where
         by_place : test a ≡ true → (Contains (filter test xs) x → Contains xs x × (test x ≡ true)) → (a ≡ x) ⊎ Contains (filter test xs) x → Contains (a ∷ xs) x × (test x ≡ true)
         by_place s rest (inl e) = ((0, omega arith, e), (cc))

@@ -13,7 +13,7 @@ use Rattle.zones.specs.Moves.{AreChanges, AreNew, IsChangeAt, KeepsRoom, IsThere
 use Rattle.zones.specs.Zoned.{AreZoned, AreZonesAt, CanMove, IsZoneAt, IsZoneAtSome, other_value, value_in, zone_shape}
 use Rattle.zones.proofs.Judged.{is_judged, judged_write}
 use Rattle.zones.proofs.Lengths.{gone_length}
-use Rattle.zones.proofs.Members.{kept, kept_stands}
+use Rattle.zones.proofs.Members.{kept, kept_present}
 use Rattle.zones.proofs.PerValue.{StandForValues, HasItemsBut, IsItemForSome, IsUntouched, KeepsItem, moved_tree, tree_is_new, tree_keeps_room}
 use Rattle.zones.proofs.Written.{one_left, write_still, write_stood, written_in_order, written_value, written_zone_kept}
 
@@ -94,18 +94,18 @@ module _ (before : List Op) (old new : Option Op) (after : List Op) (change : Is
     (earlier_is : AreZonesAt before (value_in old) (other_value (value_in old) (value_in new)) earlier)
     (later_is : AreZonesAt after (value_in old) (other_value (value_in old) (value_in new)) later)
     (none : new ≡ None) (w : Op) (e : old ≡ Some w) (write : IsWrite w) where
-  stands : Contains (judged before) w
-  stands = subst (λ (o : Option Op). IfSome o (λ op. Contains (judged before) op)) e change.goes
+  present : Contains (judged before) w
+  present = subst (λ (o : Option Op). IfSome o (λ op. Contains (judged before) op)) e change.goes
 
   had : HasWrite before (value_of w.act)
-  had = (w, record { stands = (kept_stands is_judged before w stands).0; write = write; same = refl })
+  had = (w, record { present = (kept_present is_judged before w present).0; write = write; same = refl })
 
   has_no : ¬ HasWrite after (value_of w.act)
-  has_no (x, is) = by_cases (change.stood x (kept is_judged after x is.stands (judged_write x is.write)))
+  has_no (x, is) = by_cases (change.stood x (kept is_judged after x is.present (judged_write x is.write)))
     where
       by_cases : (new ≡ Some x) ⊎ (Contains (judged before) x × (old ≢ Some x)) → ⊥
       by_cases (inl f) = absurd (let g : None ≡ Some x = sym none ∙ f in cc)
-      by_cases (inr (h, n)) = n (e ∙ ap Some (change.apart_before.by_value w x stands h (sym is.same) write is.write))
+      by_cases (inr (h, n)) = n (e ∙ ap Some (change.apart_before.by_value w x present h (sym is.same) write is.write))
 
   at_first : IsZoneAt before (value_of w.act) earlier.0
   at_first = subst (λ (o : Option Op). IsZoneAtSome before (value_in o) earlier.0) e earlier_is.one

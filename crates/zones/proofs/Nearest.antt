@@ -36,10 +36,10 @@ abbrev pub StandsBefore : List Op → Op → Op → Type 0
 StandsBefore [] y z = ⊥
 StandsBefore (a ∷ later) y z = ((a ≡ y) × Contains later z) ⊎ StandsBefore later y z
 
-pub later_stands : (xs : List Op) (y z : Op) → StandsBefore xs y z → Contains xs z
-later_stands [] y z s = absurd s
-later_stands (a ∷ later) y z (inl h) = there a later z h.1
-later_stands (a ∷ later) y z (inr s) = there a later z (later_stands later y z s)
+pub later_present : (xs : List Op) (y z : Op) → StandsBefore xs y z → Contains xs z
+later_present [] y z s = absurd s
+later_present (a ∷ later) y z (inl h) = there a later z h.1
+later_present (a ∷ later) y z (inr s) = there a later z (later_present later y z s)
 
 -- of two different ones one comes before the other
 pub one_way : (xs : List Op) (y z : Op) → Contains xs y → Contains xs z → y ≢ z → StandsBefore xs y z ⊎ StandsBefore xs z y
@@ -62,8 +62,8 @@ kept_apart (a ∷ later) y z keeps (inl (e, k)) p = from_recursion (λ b. ¬ Pre
 kept_apart (a ∷ later) y z keeps (inr s) p = kept_apart later y z keeps.1 s p
 
 -- an operation that precedes another comes before it
-pub stands_first : (xs : List Op) (y z : Op) → KeepsPrecedence xs → Contains xs y → Contains xs z → y ≢ z → Precedes y z → StandsBefore xs y z
-stands_first xs y z keeps h k n p = by_cases (one_way xs y z h k n)
+pub present_first : (xs : List Op) (y z : Op) → KeepsPrecedence xs → Contains xs y → Contains xs z → y ≢ z → Precedes y z → StandsBefore xs y z
+present_first xs y z keeps h k n p = by_cases (one_way xs y z h k n)
   where
     by_cases : StandsBefore xs y z ⊎ StandsBefore xs z y → StandsBefore xs y z
     by_cases (inl s) = s
@@ -137,14 +137,14 @@ gone held xs u reads n free z h e = by_cases (value_from held xs reads z h)
 
 -- after an operation of another value the held one does not come back
 pub no_return : (held : Value) (xs : List Op) (y z : Op) → IsSound held xs → value_of y.act ≢ held → value_of z.act ≡ held → ¬ StandsBefore xs y z
-no_return held [] y z s n e stands = stands
-no_return held (a ∷ later) y z s n e stands = by_act (cases_Bool (is_write a)) stands (λ f. no_return (value_of a.act) later y z (sound_after held a later s) (λ g. n (g ∙ f)) (e ∙ sym f))
+no_return held [] y z s n e present = present
+no_return held (a ∷ later) y z s n e present = by_act (cases_Bool (is_write a)) present (λ f. no_return (value_of a.act) later y z (sound_after held a later s) (λ g. n (g ∙ f)) (e ∙ sym f))
   where
     by_act : (is_write a ≡ true) ⊎ (is_write a ≡ false) → StandsBefore (a ∷ later) y z → (value_of a.act ≡ held → ¬ StandsBefore later y z) → ⊥
     by_act (inl t) (inl h) rest =
         gone (value_of a.act) later held (reads_after held a later s.reads) (λ f. s.free a (here a later) t (sym f)) (λ w k. s.free w (there a later w k)) z h.1 e
     by_act (inl t) (inr h) rest =
-        gone (value_of a.act) later held (reads_after held a later s.reads) (λ f. s.free a (here a later) t (sym f)) (λ w k. s.free w (there a later w k)) z (later_stands later y z h) e
+        gone (value_of a.act) later held (reads_after held a later s.reads) (λ f. s.free a (here a later) t (sym f)) (λ w k. s.free w (there a later w k)) z (later_present later y z h) e
     by_act (inr f) (inl h) rest = n (sym (ap (λ (o : Op). value_of o.act) h.0) ∙ read_found held a later s.reads f)
     by_act (inr f) (inr h) rest = rest (read_found held a later s.reads f) h
 
@@ -154,7 +154,7 @@ NoneBefore xs u v = (y z : Op) → value_of y.act ≡ u → value_of z.act ≡ v
 
 -- of two values all operations of one come before all of the other
 pub one_first : (held : Value) (xs : List Op) (u v : Value) → IsSound held xs → u ≢ v → NoneBefore xs u v ⊎ NoneBefore xs v u
-one_first held [] u v s n = inl (λ y z e f stands. stands)
+one_first held [] u v s n = inl (λ y z e f present. present)
 one_first held (a ∷ later) u v s n = by_cases (value_cases (value_of a.act) u) (value_cases (value_of a.act) v) (one_first (value_of a.act) later u v (sound_after held a later s) n)
   where
     after : IsSound (value_of a.act) later
@@ -179,8 +179,8 @@ one_first held (a ∷ later) u v s n = by_cases (value_cases (value_of a.act) u)
 
 -- no read of a value that is not held comes before its write
 pub write_first : (held : Value) (xs : List Op) (r w : Op) → IsSound held xs → value_of r.act ≢ held → is_write r ≡ false → IsWrite w → value_of w.act ≡ value_of r.act → ¬ StandsBefore xs r w
-write_first held [] r w s n f t e stands = stands
+write_first held [] r w s n f t e present = present
 write_first held (a ∷ later) r w s n f t e (inl h) = n (sym (ap (λ (o : Op). value_of o.act) h.0) ∙ read_found held a later s.reads (ap is_write h.0 ∙ f))
 write_first held (a ∷ later) r w s n f t e (inr h) =
     let after = sound_after held a later s in
-    write_first (value_of a.act) later r w after (λ g. after.free w (later_stands later r w h) t (e ∙ g)) f t e h
+    write_first (value_of a.act) later r w after (λ g. after.free w (later_present later r w h) t (e ∙ g)) f t e h

@@ -16,7 +16,7 @@ use Rattle.intervals.specs.Standing.{IsMomentOf, ShareNoMoment, HasDistinctMomen
 use Rattle.zones.specs.Turn.{left_of, StandInTurn, IsInTurn}
 use Rattle.zones.proofs.EdgeOrder.{at_most_both}
 use Rattle.zones.proofs.Judged.{is_judged}
-use Rattle.zones.proofs.Members.{here, there, in_none, contains_cases, kept_stands, from_recursion, pairs_head, pairs_tail}
+use Rattle.zones.proofs.Members.{here, there, in_none, contains_cases, kept_present, from_recursion, pairs_head, pairs_tail}
 use Rattle.zones.proofs.Cluster.{EdgeIn, left_in, settle}
 
 -- two elements of a list are one, or the relation holds of them
@@ -60,7 +60,7 @@ module _ (initial : Value) (ops : List Op) (moments : HasDistinctMoments ops) wh
   -- two operations that may each come before the other are one
   one_operation : (x y : Op) → Contains (judged ops) x → Contains (judged ops) y → StandInTurn initial ops x y → StandInTurn initial ops y x → x ≡ y
   one_operation x y h k s t =
-      one_holder ops moments x y (kept_stands is_judged ops x h).0 (kept_stands is_judged ops y k).0 x.begin
+      one_holder ops moments x y (kept_present is_judged ops x h).0 (kept_present is_judged ops y k).0 x.begin
       (inl refl) (inl (sym (same_moment x.begin y.begin begin)))
     where
       left : left_of initial ops x ≡ left_of initial ops y

@@ -10,15 +10,15 @@ use Rattle.intervals.specs.Operation.{same_value, value_of}
 use Rattle.summary_tree.specs.Order.{HasNoneAt, IsExact, IsStrictOrder, above, below, item_at, with_item}
 use Rattle.zones.specs.Moves.{AreChanges, AreNew, IsChangeAt, IsNew, KeepsRoom, Shape, IsThere, moved, with, without}
 use Rattle.zones.specs.Zoned.{other_value, value_in}
-use Rattle.zones.proofs.Members.{Decides-same_value, in_none, value_cases, here, there, contains_cases, kept, kept_stands, all_from}
+use Rattle.zones.proofs.Members.{Decides-same_value, in_none, value_cases, here, there, contains_cases, kept, kept_present, all_from}
 
 module _ {T K : Type 0} (shape : Shape T K) (order : IsStrictOrder shape.before) where
   abbrev key : T → K
   key = shape.key
 
   -- with an item of a new key the list has that item, and those at other keys
-  stands_with : (item : T) (items : List T) → HasNoneAt key (key item) items → (x : T) → Contains items x → Contains (with_item key shape.before item items) x
-  stands_with item items new x h = by_cases (order.total (key x) (key item))
+  present_with : (item : T) (items : List T) → HasNoneAt key (key item) items → (x : T) → Contains items x → Contains (with_item key shape.before item items) x
+  present_with item items new x h = by_cases (order.total (key x) (key item))
     where
       by_cases : IsTrue (shape.before (key x) (key item)) ⊎ ((key x ≡ key item) ⊎ IsTrue (shape.before (key item) (key x))) → Contains (with_item key shape.before item items) x
       by_cases (inl p) = Contains-append_left (below key shape.before (key item) items) (item ∷ above key shape.before (key item) items) x (kept (λ y. shape.before (key y) (key item)) items x h p)
@@ -33,10 +33,10 @@ module _ {T K : Type 0} (shape : Shape T K) (order : IsStrictOrder shape.before)
     where
       by_later : (item ≡ x) ⊎ Contains (above key shape.before (key item) items) x → (item ≡ x) ⊎ Contains items x
       by_later (inl e) = inl e
-      by_later (inr k) = inr (kept_stands (λ y. shape.before (key item) (key y)) items x k).0
+      by_later (inr k) = inr (kept_present (λ y. shape.before (key item) (key y)) items x k).0
 
       by_cases : Contains (below key shape.before (key item) items) x ⊎ Contains (item ∷ above key shape.before (key item) items) x → (item ≡ x) ⊎ Contains items x
-      by_cases (inl k) = inr (kept_stands (λ y. shape.before (key y) (key item)) items x k).0
+      by_cases (inl k) = inr (kept_present (λ y. shape.before (key y) (key item)) items x k).0
       by_cases (inr k) = by_later (contains_cases item (above key shape.before (key item) items) x k)
 
 -- an item of the tree is found at its key
@@ -107,8 +107,8 @@ module _ {T K : Type 0} (shape : Shape T K) (order : IsStrictOrder shape.before)
   -- an item of the tree that has the key of a value's item is that item
   same_key : (Out : Value → Type 0) (items : List T) → HasItemsBut shape Has of Out items → (u : Value) → Has u → (x : T) → Contains items x → shape.key x ≡ shape.key (of u) → shape.value x ≡ u
   same_key Out items tree u has x h e =
-      let (stands, out, is) = tree.only x h in
-      stand.one_key (shape.value x) u stands has (sym (ap shape.key is) ∙ e)
+      let (present, out, is) = tree.only x h in
+      stand.one_key (shape.value x) u present has (sym (ap shape.key is) ∙ e)
 
   take_one : (Out : Value → Type 0) (items : List T) → HasItemsBut shape Has of Out items → (u : Value) (found : Option T) → IsItemFor Has of u found → HasItemsBut shape Has of (λ v. Out v ⊎ (v ≡ u)) (without shape found items)
   take_one Out items tree u None is = record {
@@ -123,7 +123,7 @@ module _ {T K : Type 0} (shape : Shape T K) (order : IsStrictOrder shape.before)
     each = λ v has out. kept (λ x. not (shape.same (shape.key x) (shape.key gone))) items (of v) (tree.each v has (λ o. out (inl o)))
         (not_from_false (shape.same (shape.key (of v)) (shape.key gone)) (false_from_ne_true (shape.same (shape.key (of v)) (shape.key gone)) (λ t.
         out (inr (stand.one_key v u has (is.some refl) (exact.one (shape.key (of v)) (shape.key gone) t ∙ ap shape.key is.item))))));
-    only = λ x h. let (k, t) = kept_stands (λ x. not (shape.same (shape.key x) (shape.key gone))) items x h in let (has, out, e) = tree.only x k in (has, still_out x t out e, e);
+    only = λ x h. let (k, t) = kept_present (λ x. not (shape.same (shape.key x) (shape.key gone))) items x h in let (has, out, e) = tree.only x k in (has, still_out x t out e, e);
   }
     where
       still_out : (x : T) → not (shape.same (shape.key x) (shape.key gone)) ≡ true → ¬ Out (shape.value x) → x ≡ of (shape.value x) → ¬ (Out (shape.value x) ⊎ (shape.value x ≡ u))
@@ -182,7 +182,7 @@ module _ {T K : Type 0} (shape : Shape T K) (order : IsStrictOrder shape.before)
 
         by_value : (v : Value) → Has v → ¬ Less v → (v ≡ u) ⊎ (v ≢ u) → Contains (with_item shape.key shape.before item items) (of v)
         by_value v has in_tree (inl e) = subst (λ (x : T). Contains (with_item shape.key shape.before item items) x) (is.item ∙ ap of (sym e)) (comes_with shape order item items)
-        by_value v has in_tree (inr n) = stands_with shape order item items new (of v) (tree.each v has (λ o. by_cases v in_tree n (more v o)))
+        by_value v has in_tree (inr n) = present_with shape order item items new (of v) (tree.each v has (λ o. by_cases v in_tree n (more v o)))
 
         value : shape.value item ≡ u
         value = ap shape.value is.item ∙ stand.value u
@@ -310,11 +310,11 @@ module _ {T : Type 0} (Had Has : Value → Type 0) (was is : Value → T) where
     }
 
 -- what goes leaves room for what comes, where no value is new
-stands_before : {T K : Type 0} (shape : Shape T K) (Had Has : Value → Type 0) (was is : Value → T) (items : List T) → HasItemsBut shape Had was (λ v. ⊥) items → (u : Option Value) (one other : Option T) → IsItemForSome Had was u one → IsItemForSome Has is u other
+present_before : {T K : Type 0} (shape : Shape T K) (Had Has : Value → Type 0) (was is : Value → T) (items : List T) → HasItemsBut shape Had was (λ v. ⊥) items → (u : Option Value) (one other : Option T) → IsItemForSome Had was u one → IsItemForSome Has is u other
     → ((v : Value) → Has v → Had v) → IsSome other → IsThere items one
-stands_before shape Had Has was is items tree None one other before after had some = absurd (let e : is_some other ≡ false = ap is_some after in both_ways (is_some other) e some)
-stands_before shape Had Has was is items tree (Some u) None other before after had some = absurd (before.none refl (had u (after.some some)))
-stands_before shape Had Has was is items tree (Some u) (Some x) other before after had some = subst (Contains items) (sym before.item) (tree.each u (before.some refl) (λ n. n))
+present_before shape Had Has was is items tree None one other before after had some = absurd (let e : is_some other ≡ false = ap is_some after in both_ways (is_some other) e some)
+present_before shape Had Has was is items tree (Some u) None other before after had some = absurd (before.none refl (had u (after.some some)))
+present_before shape Had Has was is items tree (Some u) (Some x) other before after had some = subst (Contains items) (sym before.item) (tree.each u (before.some refl) (λ n. n))
 
 none_other : (f : Option Value) → other_value f None ≡ None
 none_other None = refl
@@ -373,6 +373,6 @@ module _ {T K : Type 0} (shape : Shape T K) (order : IsStrictOrder shape.before)
   tree_keeps_room stood e =
       let none : second_value ≡ None = ap (λ (n : Option Op). other_value first_value (value_in n)) e ∙ none_other first_value in
       record {
-        one = stands_before shape Had Has was is items tree one.at gone.0 come.0 one.gone_at one.come_at stood;
+        one = present_before shape Had Has was is items tree one.at gone.0 come.0 one.gone_at one.come_at stood;
         other = none_comes Had Has was is other.at come.1 other.come_at (λ v h. subst (λ (u : Option Value). Is u v) none (other.within v h));
       }

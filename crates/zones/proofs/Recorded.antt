@@ -24,7 +24,7 @@ use Rattle.zones.specs.Zoned.{other_value, value_in}
 use Rattle.zones.proofs.EdgesOf.{edges_elsewhere, edges_of_none, has_begun}
 use Rattle.zones.proofs.Ends.{none_begins, none_ends}
 use Rattle.zones.proofs.Judged.{is_judged, is_judged_by_end}
-use Rattle.zones.proofs.Members.{Decides-same_value, all_from, in_none, kept_stands}
+use Rattle.zones.proofs.Members.{Decides-same_value, all_from, in_none, kept_present}
 
 -- the edges of each value without operations
 edges_of_no : (v : Value) → AreEdges [] v (edges_of_nothing v)
@@ -71,8 +71,8 @@ has_record ops records are op h (Int n) same = by_cases (get int_eq records.of_n
         by_kind of_nothing (is_write op) refl
       where
         by_kind : AreEdges ops (Int n) (edges_of_nothing (Int n)) → (t : Bool) → is_write op ≡ t → ⊥
-        by_kind of true t = absurd (let g : ComesBefore Before Before = has_begun IsWrite ops (Int n) Before of.write.begin op (kept_stands is_judged ops op h).0 t same in cc)
-        by_kind of false t = absurd (let g : ComesBefore Before Before = has_begun IsJudgedRead ops (Int n) Before of.read.begin op (kept_stands is_judged ops op h).0 (is_judged_by_end (is_write op) (is_some op.end) (kept_stands is_judged ops op h).1 t) same in cc)
+        by_kind of true t = absurd (let g : ComesBefore Before Before = has_begun IsWrite ops (Int n) Before of.write.begin op (kept_present is_judged ops op h).0 t same in cc)
+        by_kind of false t = absurd (let g : ComesBefore Before Before = has_begun IsJudgedRead ops (Int n) Before of.read.begin op (kept_present is_judged ops op h).0 (is_judged_by_end (is_write op) (is_some op.end) (kept_present is_judged ops op h).1 t) same in cc)
 
     by_cases : (o : Option Edges) → get int_eq records.of_numbers n ≡ o → IsSome o
     by_cases None e = absurd (none e)
@@ -150,4 +150,4 @@ at_values ops old new first second first_is second_is edges is =
 -- the write that a record names is found in the table
 pub named_found : (ops : List Op) (v : Value) → HasDistinctIds ops → (id : OpId) → NamesWrite ops v (Some id) → MatchOption (op_of ops id) (HasNoWrite ops v) (IsTheWriteAt ops v)
 named_found ops v distinct id (w, is, named) =
-    subst (λ (o : Option Op). MatchOption o (HasNoWrite ops v) (IsTheWriteAt ops v)) (sym (ap (op_of ops) (sym named) ∙ found_by_id ops w distinct is.stands)) is
+    subst (λ (o : Option Op). MatchOption o (HasNoWrite ops v) (IsTheWriteAt ops v)) (sym (ap (op_of ops) (sym named) ∙ found_by_id ops w distinct is.present)) is

@@ -16,7 +16,7 @@ use Rattle.zones.specs.Cluster.{edge_of_end}
 use Rattle.zones.specs.Members.{HaveOwnPlaces, IsChange}
 use Rattle.zones.specs.declared.index.Members.{Members}
 use Rattle.zones.specs.Index.{AreMembers, HasPlaceAt, HasPlaces, HasPlacesOf, IsInTime, IsShelfOf, shelf_of, by_begin, by_end, come_at, spot_in, spot_on, taken_at}
-use Rattle.zones.proofs.Members.{kept, kept_stands}
+use Rattle.zones.proofs.Members.{kept, kept_present}
 use Rattle.zones.proofs.Judged.{is_judged}
 
 -- the value and the moment of an operation whose spot is this one
@@ -111,21 +111,21 @@ module _ (row : IndexKind) where
       where
         by_cases : IsTaken (spot_in row old) spot (id_at from spot) (id_if_there (left_at spot)) → id_if_there (left_at spot) ≡ Some op.id
         by_cases (inl (s, r)) = let (one, o, f) = owner old spot s in absurd (other (o ∙ ap Some (own_spot before change.apart_before row one op spot (goes one o) h f e)))
-        by_cases (inr (s, r)) = r ∙ index.there op spot (kept_stands is_judged before op h).0 e
+        by_cases (inr (s, r)) = r ∙ index.there op spot (kept_present is_judged before op h).0 e
 
     there_after : (op : Op) (spot : Spot) → Contains after op → spot_on row op ≡ Some spot → id_at to spot ≡ Some op.id
     there_after op spot h e = ap id_if_there (is spot) ∙ by_new (come_cases row new spot (left_at spot))
       where
-        stands : Contains (judged after) op
-        stands = kept is_judged after op h (judged_there row op spot e)
+        present : Contains (judged after) op
+        present = kept is_judged after op h (judged_there row op spot e)
 
         by_stood : spot_in row new ≢ Some spot → (new ≡ Some op) ⊎ (Contains (judged before) op × (old ≢ Some op)) → id_if_there (left_at spot) ≡ Some op.id
         by_stood other (inl n) = absurd (other (ap (spot_in row) n ∙ e))
         by_stood other (inr (b, stays)) = stays_there op spot b stays e
 
         by_new : IsCome row new spot (id_if_there (left_at spot)) (id_if_there (come_at row new spot (left_at spot))) → id_if_there (come_at row new spot (left_at spot)) ≡ Some op.id
-        by_new (inl (one, n, f, r)) = r ∙ ap (λ (o : Op). Some o.id) (own_spot after change.apart_after row one op spot (comes one n) stands f e)
-        by_new (inr (other, r)) = r ∙ by_stood other (change.stood op stands)
+        by_new (inl (one, n, f, r)) = r ∙ ap (λ (o : Op). Some o.id) (own_spot after change.apart_after row one op spot (comes one n) present f e)
+        by_new (inr (other, r)) = r ∙ by_stood other (change.stood op present)
 
     abbrev StandsAfter : Spot → OpId → Type 0
     StandsAfter spot id = (op : Op) × Contains after op × (op.id ≡ id) × (spot_on row op ≡ Some spot)
@@ -135,7 +135,7 @@ module _ (row : IndexKind) where
       where
         by_stay : (op : Op) → op.id ≡ id → spot_on row op ≡ Some spot → spot_in row old ≢ Some spot → (old ≡ Some op) ⊎ Contains (judged after) op → StandsAfter spot id
         by_stay op i f other (inl o) = absurd (other (ap (spot_in row) o ∙ f))
-        by_stay op i f other (inr h) = (op, (kept_stands is_judged after op h).0, i, f)
+        by_stay op i f other (inr h) = (op, (kept_present is_judged after op h).0, i, f)
 
         by_old : id_if_there (left_at spot) ≡ Some id → IsTaken (spot_in row old) spot (id_at from spot) (id_if_there (left_at spot)) → StandsAfter spot id
         by_old l (inl (s, r)) = absurd (cc)
@@ -144,7 +144,7 @@ module _ (row : IndexKind) where
             by_stay op i f other (change.stay op (kept is_judged before op h (judged_there row op spot f)))
 
         by_new : IsCome row new spot (id_if_there (left_at spot)) (id_if_there (come_at row new spot (left_at spot))) → StandsAfter spot id
-        by_new (inl (one, n, f, r)) = (one, (kept_stands is_judged after one (comes one n)).0, (let g : Some one.id ≡ Some id = sym r ∙ (sym (ap id_if_there (is spot)) ∙ e) in cc), f)
+        by_new (inl (one, n, f, r)) = (one, (kept_present is_judged after one (comes one n)).0, (let g : Some one.id ≡ Some id = sym r ∙ (sym (ap id_if_there (is spot)) ∙ e) in cc), f)
         by_new (inr (other, r)) = by_old (sym r ∙ (sym (ap id_if_there (is spot)) ∙ e)) (taken_cases (spot_in row old) held spot (place_at from spot))
 
     in_time_after : (spot : Spot) (id : OpId) → id_at to spot ≡ Some id → IsInTime (Some spot)

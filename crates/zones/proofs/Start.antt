@@ -32,9 +32,9 @@ use Rattle.zones.proofs.Excluded.{crossing_excludes, early_excludes, unwritten_e
 use Rattle.zones.proofs.Existence.{faultless_exactly}
 use Rattle.zones.proofs.FirstReads.{early_none, faultless_without_firsts, same_pair}
 use Rattle.zones.proofs.Fresh.{fresh_is_new, fresh_not_written}
-use Rattle.zones.proofs.InTree.{begins_later, carried, has_write, zones_behind}
+use Rattle.zones.proofs.InTree.{begins_later, carried, has_write, zones_following}
 use Rattle.zones.proofs.Judged.{is_judged}
-use Rattle.zones.proofs.Members.{all_from, kept_stands, pairs_tail, there, value_cases}
+use Rattle.zones.proofs.Members.{all_from, kept_present, pairs_tail, there, value_cases}
 use Rattle.zones.proofs.Edited.{from_map}
 use Rattle.zones.proofs.Writeless.{IsOfAnother, other_first, other_none, writeless_first, writeless_none}
 use Rattle.zones.proofs.Written.{written_cases, written_value}
@@ -53,7 +53,7 @@ fresh_zone_is ops =
     by_cases (inl e) = e
     by_cases (inr (op, h, e)) =
         let (k, same) = member_of (unused_value ops) ops (unused_value ops) op h in
-        absurd (fresh_is_new ops op (kept_stands is_judged ops op k).0 same)
+        absurd (fresh_is_new ops op (kept_present is_judged ops op k).0 same)
 
 -- the zone of a value that no operation has conflicts with none, and is not forward
 fresh_clear : (ops : List Op) (z : Zone) → ¬ Conflicts (zone_of (unused_value ops) ops (unused_value ops)) z
@@ -65,24 +65,24 @@ fresh_backward : (ops : List Op) → ¬ IsForward (zone_of (unused_value ops) op
 fresh_backward ops f = let d : IsForward (fresh_zone ops) = subst IsForward (fresh_zone_is ops) f in absurd (cc)
 
 -- with the zone of a value that no operation has the zones are clean exactly where they are without it
-clean_behind : (initial : Value) (ops : List Op) → HasNoWrite ops initial → IsClean (zones_of initial ops) → IsClean (zones_from None ops)
-clean_behind initial ops none clean =
-    pairs_tail (λ a b. ¬ Conflicts a b) (zone_of initial ops initial) (zones_from None ops) (subst IsClean (zones_behind initial ops none) clean)
+clean_after : (initial : Value) (ops : List Op) → HasNoWrite ops initial → IsClean (zones_of initial ops) → IsClean (zones_from None ops)
+clean_after initial ops none clean =
+    pairs_tail (λ a b. ¬ Conflicts a b) (zone_of initial ops initial) (zones_from None ops) (subst IsClean (zones_following initial ops none) clean)
 
 clean_with_fresh : (ops : List Op) → IsClean (zones_from None ops) → IsClean (zones_of (unused_value ops) ops)
 clean_with_fresh ops clean =
-    subst IsClean (sym (zones_behind (unused_value ops) ops (fresh_not_written ops)))
+    subst IsClean (sym (zones_following (unused_value ops) ops (fresh_not_written ops)))
     (AllPairs-cons (λ a b. ¬ Conflicts a b) (zone_of (unused_value ops) ops (unused_value ops)) (zones_from None ops) (all_from (λ z. ¬ Conflicts (zone_of (unused_value ops) ops (unused_value ops)) z) (zones_from None ops) (λ z h. fresh_clear ops z)) clean)
 
 pub clean_from : (initial : Option Value) (ops : List Op) → IsClean (zones_of (or_fresh ops initial) ops) ↔ IsClean (zones_from initial ops)
-clean_from None ops = (clean_behind (unused_value ops) ops (fresh_not_written ops), clean_with_fresh ops)
+clean_from None ops = (clean_after (unused_value ops) ops (fresh_not_written ops), clean_with_fresh ops)
 clean_from (Some initial) ops = ((λ c. c), λ c. c)
 
 -- with the zone of a value that no operation has the first conflict is the one without it
 conflict_with_fresh : (ops : List Op) (first second : Zone) → HasFirstConflictFrom None ops first second → HasFirstConflict (unused_value ops) ops first second
 conflict_with_fresh ops first second h = record {
   zones = front ∷ h.zones;
-  each_once = subst (λ (zones : List Zone). IsPermutation zones (front ∷ h.zones)) (sym (zones_behind (unused_value ops) ops (fresh_not_written ops))) (IsPermutation-cons front (zones_from None ops) h.zones h.each_once);
+  each_once = subst (λ (zones : List Zone). IsPermutation zones (front ∷ h.zones)) (sym (zones_following (unused_value ops) ops (fresh_not_written ops))) (IsPermutation-cons front (zones_from None ops) h.zones h.each_once);
   by_left = AllPairs-cons (λ a b. ComesBefore a.left b.left) front h.zones (all_from (λ z. ComesBefore front.left z.left) h.zones later) h.by_left;
   conflict = record {
     earlier = front ∷ h.conflict.earlier;
@@ -90,7 +90,7 @@ conflict_with_fresh ops first second h = record {
     parts = ap (λ (zones : List Zone). front ∷ zones) h.conflict.parts;
     clear = AllPairs-cons (λ a b. IsForward a → ¬ Conflicts a b) front h.conflict.earlier (all_from (λ z. IsForward front → ¬ Conflicts front z) h.conflict.earlier (λ z k f. fresh_clear ops z)) h.conflict.clear;
     farthest = record {
-      stands = there front h.conflict.earlier first h.conflict.farthest.stands;
+      present = there front h.conflict.earlier first h.conflict.farthest.present;
       forward = h.conflict.farthest.forward;
       farthest = All-cons (λ z. IsForward z → ¬ ComesBefore first.right z.right) front h.conflict.earlier (λ f. absurd (fresh_backward ops f)) h.conflict.farthest.farthest;
     };
@@ -261,8 +261,8 @@ module _ (claim : ClaimModel) (ops : List Op) where
       two_faulty : (a b : Op) → TwoValues a b → ¬ IsFaultless (start_of claim ops) ops
       two_faulty a b is f =
           let first = writeless_first claim ops a is.0 in
-          All-contains (λ r. ¬ IsUnwritten (unused_value ops) ops r) ops a (at_value None (unknown_initial unknown ∙ two_sole a b is) f).written first.stands
-          (writeless_is (unused_value ops) a (fresh_is_new ops a first.stands) first.holds)
+          All-contains (λ r. ¬ IsUnwritten (unused_value ops) ops r) ops a (at_value None (unknown_initial unknown ∙ two_sole a b is) f).written first.present
+          (writeless_is (unused_value ops) a (fresh_is_new ops a first.present) first.holds)
 
       by_cases : Cases → IsFaultless (start_of claim ops) ops ↔ Without
       by_cases (inl e) = (
@@ -335,16 +335,16 @@ module _ (claim : ClaimModel) (ops : List Op) where
             unknown_unwritten unknown,
             unknown_split unknown ∙ none_pair e,
             (early_none ops).1 f.timely,
-            subst (λ (o : Option Value). IsClean (zones_from o ops)) (sym nothing) (clean_behind v ops none f.clean),
+            subst (λ (o : Option Value). IsClean (zones_from o ops)) (sym nothing) (clean_after v ops none f.clean),
           )
       by_cases (inr (inl (a, is))) =
           let first = writeless_first claim ops a is.0 in
           subst (λ (o : Option Value). IsFaultless (or_fresh ops o) ops) (sym (unknown_initial unknown ∙ one_sole a is))
-          (subst (λ (u : Value). IsFaultless u ops) (sym (is_v a first.stands first.holds)) f)
+          (subst (λ (u : Value). IsFaultless u ops) (sym (is_v a first.present first.holds)) f)
       by_cases (inr (inr (a, b, is))) =
           let first = writeless_first claim ops a is.0 in
           let other = other_first claim ops (value_of a.act) b is.1 in
-          absurd (other.holds.1 (is_v b other.stands other.holds.0 ∙ sym (is_v a first.stands first.holds)))
+          absurd (other.holds.1 (is_v b other.present other.holds.0 ∙ sym (is_v a first.present first.holds)))
 
   -- a register is faultless exactly where there is an arrangement
   pub faultless_is_atomic : HasDistinctMoments ops → HasEndsAfterBeginnings ops → HasOwnValues claim ops → IsFaultless (start_of claim ops) ops ↔ IsAtomic claim ops
@@ -399,33 +399,33 @@ module _ (claim : ClaimModel) (ops : List Op) where
   pub split_excludes_all : claim.known ≡ false → (a b : Op) → IsSplit claim ops a b → ¬ IsAtomic claim ops
   split_excludes_all unknown a b split atomic =
       let (v, none, arranged) = subst (λ (t : Bool). IsAtomicWhere t claim ops) unknown atomic in
-      split.apart (begins_with v arranged b split.b_stands split.other ∙ sym (begins_with v arranged a split.a_stands split.one))
+      split.apart (begins_with v arranged b split.b_present split.other ∙ sym (begins_with v arranged a split.a_present split.one))
 
   -- four operations that cross, from the value that an arrangement begins with
   crossing_at : (v : Value) → IsArranged (beginning v) ops → (a : Option Op) (b : Op) (c : Option Op) (d : Op) → claim.known ≡ false → IsCrossing (start_of claim ops) ops a b c d → IsCrossing v ops a b c d
   crossing_at v arranged a b c d unknown x = record {
-    a_stands = x.a_stands;
-    b_stands = x.b_stands;
-    c_stands = x.c_stands;
-    d_stands = x.d_stands;
-    one_value = same a d x.d_stands x.one_value;
-    other_value = same c b x.b_stands x.other_value;
+    a_present = x.a_present;
+    b_present = x.b_present;
+    c_present = x.c_present;
+    d_present = x.d_present;
+    one_value = same a d x.d_present x.one_value;
+    other_value = same c b x.b_present x.other_value;
     apart = x.apart;
     a_before_b = x.a_before_b;
     c_before_d = x.c_before_d;
   }
     where
-      stands : (o : Op) → Contains (judged ops) o → Contains ops o
-      stands o h = (kept_stands is_judged ops o h).0
+      present : (o : Op) → Contains (judged ops) o → Contains ops o
+      present o h = (kept_present is_judged ops o h).0
 
       not_fresh : (o : Op) → Contains (judged ops) o → initial_of claim ops ≡ None → start_of claim ops ≢ value_of o.act
-      not_fresh o h e f = fresh_is_new ops o (stands o h) (sym f ∙ ap (or_fresh ops) e)
+      not_fresh o h e f = fresh_is_new ops o (present o h) (sym f ∙ ap (or_fresh ops) e)
 
       by_cases : (o : Op) → Contains (judged ops) o → start_of claim ops ≡ value_of o.act → Cases → v ≡ value_of o.act
       by_cases o h e (inl n) = absurd (not_fresh o h (unknown_initial unknown ∙ none_sole n) e)
       by_cases o h e (inr (inl (r, is))) =
           let first = writeless_first claim ops r is.0 in
-          sym (begins_with v arranged r first.stands first.holds) ∙ (sym (ap (or_fresh ops) (unknown_initial unknown ∙ one_sole r is)) ∙ e)
+          sym (begins_with v arranged r first.present first.holds) ∙ (sym (ap (or_fresh ops) (unknown_initial unknown ∙ one_sole r is)) ∙ e)
       by_cases o h e (inr (inr (r, s, is))) = absurd (not_fresh o h (unknown_initial unknown ∙ two_sole r s is) e)
 
       same : (x : Option Op) (o : Op) → Contains (judged ops) o → value_at (start_of claim ops) x ≡ value_of o.act → value_at v x ≡ value_of o.act
@@ -465,14 +465,14 @@ module _ (claim : ClaimModel) (ops : List Op) where
   pub split_is : (a b : Op) → first_split claim ops ≡ Some (a, b) → IsSplit claim ops a b
   split_is a b e =
       let (unknown, first, other) = split_first a b e in
-      record { a_stands = first.stands; b_stands = other.stands; one = first.holds; other = other.holds.0; apart = other.holds.1 }
+      record { a_present = first.present; b_present = other.present; one = first.holds; other = other.holds.0; apart = other.holds.1 }
 
   pub no_split : claim.known ≡ false → first_split claim ops ≡ None → (a b : Op) → ¬ IsSplit claim ops a b
   no_split unknown e a b split = by_cases cases
     where
       by_cases : Cases → ⊥
-      by_cases (inl n) = none_writeless n a split.a_stands split.one
-      by_cases (inr (inl (r, is))) = split.apart (one_value r is b split.b_stands split.other ∙ sym (one_value r is a split.a_stands split.one))
+      by_cases (inl n) = none_writeless n a split.a_present split.one
+      by_cases (inr (inl (r, is))) = split.apart (one_value r is b split.b_present split.other ∙ sym (one_value r is a split.a_present split.one))
       by_cases (inr (inr (r, s, is))) = let some : Some (r, s) ≡ None = sym (two_pair r s is) ∙ (sym (unknown_split unknown) ∙ e) in cc
 
   -- where nobody knows the initial value, it is that of all writeless reads
@@ -484,7 +484,7 @@ module _ (claim : ClaimModel) (ops : List Op) where
       by_cases (inr (inl (a, is))) =
           let first = writeless_first claim ops a is.0 in
           let same : value_of a.act ≡ v = let some : Some (value_of a.act) ≡ Some v = sym (unknown_initial unknown ∙ one_sole a is) ∙ e in cc in
-          ((a, first.stands, first.holds, same), λ r h u. one_value a is r h u ∙ same)
+          ((a, first.present, first.holds, same), λ r h u. one_value a is r h u ∙ same)
       by_cases (inr (inr (a, b, is))) = absurd (let some : Some v ≡ None = sym e ∙ (unknown_initial unknown ∙ two_sole a b is) in cc)
 
   -- a value of an operation that is among the `written_values` of the start is among the `values_from` of the initial

@@ -13,8 +13,8 @@ use Rattle.intervals.specs.Standing.{HasDistinctMoments}
 use Rattle.intervals.specs.Judging.{end_number}
 use Rattle.intervals.specs.Terms.{ClaimModel}
 use Rattle.intervals.proofs.Found.{find-None, find-Some}
-use Rattle.stretch_tree.specs.declared.stretch.Stretch.{Stretch}
-use Rattle.stretch_tree.proofs.MomentOrder.{moment_exact, moment_order}
+use Rattle.zone_tree.specs.declared.stretch.Stretch.{Stretch}
+use Rattle.zone_tree.proofs.MomentOrder.{moment_exact, moment_order}
 use Rattle.zone_tree.specs.declared.edge.Edge.{Edge}
 use Rattle.zone_tree.specs.declared.edge.Edge.TheVariants.{At, Never}
 use Rattle.zone_tree.specs.Edge.{ComesBefore}
@@ -29,7 +29,7 @@ use Rattle.zones.proofs.EdgeOrder.{AtMost, at_most_both, not_after_before}
 use Rattle.zones.proofs.Edited.{from_map}
 use Rattle.zones.proofs.FirstReads.{ended_at, has_end}
 use Rattle.zones.proofs.Judged.{is_judged, judged_read, judged_write}
-use Rattle.zones.proofs.Members.{Decides-same_value, in_none, kept, kept_stands, all_from, mapped}
+use Rattle.zones.proofs.Members.{Decides-same_value, in_none, kept, kept_present, all_from, mapped}
 use Rattle.zones.proofs.PerValue.{StandForValues, HasItemsBut, IsItemForSome, IsUntouched, KeepsItem, moved_tree, tree_is_new}
 use Rattle.zones.proofs.Written.{never_last}
 
@@ -61,10 +61,10 @@ IsReadAt ops v r = Contains ops r × IsJudgedRead r × (value_of r.act ≡ v)
 
 -- the value has no write where no operation is its write
 pub no_write : (ops : List Op) (v : Value) → ((w : Op) → ¬ IsTheWriteAt ops v w) → HasNoWrite ops v
-no_write ops v none = all_from (λ w. IsWrite w → value_of w.act ≢ v) ops (λ w h t e. none w (record { stands = h; write = t; same = e }))
+no_write ops v none = all_from (λ w. IsWrite w → value_of w.act ≢ v) ops (λ w h t e. none w (record { present = h; write = t; same = e }))
 
 pub no_write_at : (ops : List Op) (v : Value) → HasNoWrite ops v → (w : Op) → ¬ IsTheWriteAt ops v w
-no_write_at ops v none w is = All-contains (λ w. IsWrite w → value_of w.act ≢ v) ops w none is.stands is.write is.same
+no_write_at ops v none w is = All-contains (λ w. IsWrite w → value_of w.act ≢ v) ops w none is.present is.write is.same
 
 module _ (ops : List Op) (v : Value) where
   in_reads : (r : Op) → IsReadAt ops v r → Contains (reads_of ops v) r
@@ -72,8 +72,8 @@ module _ (ops : List Op) (v : Value) where
 
   from_reads : (r : Op) → Contains (reads_of ops v) r → IsReadAt ops v r
   from_reads r h =
-      let (k, e) = kept_stands (has_value v) (filter is_judged_read ops) r h in
-      let (s, j) = kept_stands is_judged_read ops r k in
+      let (k, e) = kept_present (has_value v) (filter is_judged_read ops) r h in
+      let (s, j) = kept_present is_judged_read ops r k in
       (s, j, (Decides-same_value (value_of r.act) v).0 e)
 
   -- the first end is at most the end of each read
@@ -95,7 +95,7 @@ module _ (ops : List Op) (v : Value) where
   pub first_end_is : (end : Moment) (id : OpId) → EndsFirstOf ops v end id → first_end_of ops v ≡ At end
   first_end_is end id is =
       at_most_both (first_end_of ops v) (At end)
-      (subst (λ (e : Option Moment). AtMost (first_end_of ops v) (edge_of_end e)) is.ended (first_at_most is.read (is.stands, is.judged, is.same)))
+      (subst (λ (e : Option Moment). AtMost (first_end_of ops v) (edge_of_end e)) is.ended (first_at_most is.read (is.present, is.judged, is.same)))
       (by_cases first_held)
     where
       by_cases : IsHeld → AtMost (At end) (first_end_of ops v)
@@ -121,13 +121,13 @@ module _ (ops : List Op) (v : Value) where
             r.id,
             record {
               read = r;
-              stands = k;
+              present = k;
               judged = read;
               same = at_value;
               named = refl;
               ended = f;
-              first = all_from (λ y. IsJudgedRead y → value_of y.act ≡ v → m.0 ≤ end_number y) ops (λ y stands j g.
-                  at_most_ended m y j (subst (λ (x : Edge). AtMost x (edge_of_end y.end)) first (first_at_most y (stands, j, g))));
+              first = all_from (λ y. IsJudgedRead y → value_of y.act ≡ v → m.0 ≤ end_number y) ops (λ y present j g.
+                  at_most_ended m y j (subst (λ (x : Edge). AtMost x (edge_of_end y.end)) first (first_at_most y (present, j, g))));
             },
           )
 
@@ -144,12 +144,12 @@ module _ (ops : List Op) (v : Value) where
             e,
             no_write ops v (λ w is.
                 not_from_Decides (is_write w && same_value (value_of w.act) v) (decides w)
-                (All-contains (λ w. (is_write w && same_value (value_of w.act) v) ≡ false) ops w (find-None (λ w. is_write w && same_value (value_of w.act) v) ops e) is.stands) (is.write, is.same)),
+                (All-contains (λ w. (is_write w && same_value (value_of w.act) v) ≡ false) ops w (find-None (λ w. is_write w && same_value (value_of w.act) v) ops e) is.present) (is.write, is.same)),
           )
       by_cases (Some w) e =
           let (h, t) = find-Some (λ w. is_write w && same_value (value_of w.act) v) ops w e in
           let (write, same) = (decides w).0 t in
-          inl (w, e, record { stands = h; write = write; same = same })
+          inl (w, e, record { present = h; write = write; same = same })
 
 -- where the write of a value begins, and whether there is one
 module _ (ops : List Op) (v : Value) where
@@ -194,7 +194,7 @@ module _ (ops : List Op) (v : Value) where
   end_in initial read =
       let (end, id, is) = first_of_reads ops v read in
       let at : end ≡ (stretch_of ops v).end = ap edge_moment (sym (first_end_is ops v end id is)) in
-      subst (λ (m : Moment). EdgeIn initial ops v (At m)) at (is.read, (kept is_judged ops is.read is.stands (judged_read is.read is.judged).0, is.same), inr is.ended)
+      subst (λ (m : Moment). EdgeIn initial ops v (At m)) at (is.read, (kept is_judged ops is.read is.present (judged_read is.read is.judged).0, is.same), inr is.ended)
 
 pub stretches_stand : (claim : ClaimModel) (ops : List Op) → HasDistinctMoments ops → StandForValues stretch_shape (IsAtFault claim ops) (stretch_of ops)
 stretches_stand claim ops moments = record {
@@ -220,14 +220,14 @@ module _ (before : List Op) (old new : Option Op) (after : List Op) (change : Is
     where
       by_cases : (old ≡ Some op) ⊎ Contains (judged after) op → Contains after op
       by_cases (inl f) = absurd (apart f)
-      by_cases (inr k) = (kept_stands is_judged after op k).0
+      by_cases (inr k) = (kept_present is_judged after op k).0
 
   stood : (op : Op) → (new ≡ Some op → ⊥) → Contains after op → is_judged op ≡ true → Contains before op
   stood op apart h j = by_cases (change.stood op (kept is_judged after op h j))
     where
       by_cases : (new ≡ Some op) ⊎ (Contains (judged before) op × (old ≢ Some op)) → Contains before op
       by_cases (inl f) = absurd (apart f)
-      by_cases (inr (k, n)) = (kept_stands is_judged before op k).0
+      by_cases (inr (k, n)) = (kept_present is_judged before op k).0
 
   read_still : ((op : Op) → old ≡ Some op → value_of op.act ≢ v) → (r : Op) → IsReadAt before v r → IsReadAt after v r
   read_still apart r (h, j, e) = (stays r (λ f. apart r f e) h (judged_read r j).0, j, e)
@@ -238,24 +238,24 @@ module _ (before : List Op) (old new : Option Op) (after : List Op) (change : Is
   one_after : (x w : Op) → IsTheWriteAt after v x → IsTheWriteAt after v w → x ≡ w
   one_after x w a b =
       change.apart_after.by_value x w
-      (kept is_judged after x a.stands (judged_write x a.write)) (kept is_judged after w b.stands (judged_write w b.write))
+      (kept is_judged after x a.present (judged_write x a.write)) (kept is_judged after w b.present (judged_write w b.write))
       (a.same ∙ sym b.same) a.write b.write
 
   -- the write stays where neither what goes nor what comes is a write of the value
   module _ (by_old : (op : Op) → old ≡ Some op → IsWrite op → value_of op.act ≢ v) (by_new : (op : Op) → new ≡ Some op → IsWrite op → value_of op.act ≢ v) where
     write_still : (w : Op) → IsTheWriteAt before v w → IsTheWriteAt after v w
-    write_still w is = record { stands = stays w (λ f. by_old w f is.write is.same) is.stands (judged_write w is.write); write = is.write; same = is.same }
+    write_still w is = record { present = stays w (λ f. by_old w f is.write is.same) is.present (judged_write w is.write); write = is.write; same = is.same }
 
     write_stood : (w : Op) → IsTheWriteAt after v w → IsTheWriteAt before v w
-    write_stood w is = record { stands = stood w (λ f. by_new w f is.write is.same) is.stands (judged_write w is.write); write = is.write; same = is.same }
+    write_stood w is = record { present = stood w (λ f. by_new w f is.write is.same) is.present (judged_write w is.write); write = is.write; same = is.same }
 
     write_kept : (begin before v ≡ begin after v) × (written before v ≡ written after v)
     write_kept = by_cases (begin_cases before v)
       where
         by_cases : BeginCases before v → (begin before v ≡ begin after v) × (written before v ≡ written after v)
         by_cases (inl (w, is, e, t)) =
-            let stands = write_still w is in
-            let at = at_write after v w stands (λ x other. one_after x w other stands) in
+            let present = write_still w is in
+            let at = at_write after v w present (λ x other. one_after x w other present) in
             (e ∙ sym at.0, t ∙ sym at.1)
         by_cases (inr (none, e, f)) =
             let never = never_written after v (no_write after v (λ w is. no_write_at before v none w (write_stood w is))) in
@@ -347,8 +347,8 @@ module _ (claim : ClaimModel) (before : List Op) (old new : Option Op) (after : 
         (stretch_for claim after first later.0 later_is.one) (stretch_for claim after second later.1 later_is.other)
 
   -- where a read goes and nothing comes, a stretch comes only in the place of one that is there
-  pub stretch_stands : new ≡ None → ((op : Op) → old ≡ Some op → ¬ IsWrite op) → IsSome later.0 → IsThere stretches earlier.0
-  stretch_stands none reads = by_value first earlier_is.one later_is.one
+  pub stretch_present : new ≡ None → ((op : Op) → old ≡ Some op → ¬ IsWrite op) → IsSome later.0 → IsThere stretches earlier.0
+  stretch_present none reads = by_value first earlier_is.one later_is.one
     where
       by_stretch : (v : Value) (one : Option Stretch) → IsStretchAt claim before v one → IsAtFault claim before v → IsThere stretches one
       by_stretch v None is fault = absurd (is.none refl fault)

@@ -9,8 +9,8 @@ use Rattle.intervals.specs.Table.{TableModel, admitted, prepared_after}
 use Rattle.intervals.specs.Terms.{ClaimModel}
 use Rattle.zone_tree.specs.declared.zone.Zone.{Zone}
 use Rattle.zone_tree.specs.Order.{ZoneContents as Zones}
-use Rattle.stretch_tree.specs.declared.stretch.Stretch.{Stretch}
-use Rattle.stretch_tree.specs.Order.{StretchContents as Stretches}
+use Rattle.zone_tree.specs.declared.stretch.Stretch.{Stretch}
+use Rattle.zone_tree.specs.StretchOrder.{StretchContents as Stretches}
 use Rattle.zones.specs.declared.index.Members.{Members}
 use Rattle.zones.specs.declared.index.IndexKind.{IndexKind}
 use Rattle.zones.specs.declared.records.Records.{Records}
@@ -22,7 +22,7 @@ use Rattle.zones.specs.Faults.{stretch_shape}
 use Rattle.zones.specs.Records.{AreRecords, edges_at}
 use Rattle.zones.specs.Together.{HasRoomInClusters, AreOfOneRegister}
 use Rattle.zones.specs.Zoned.{judged_part, zone_shape}
-use Rattle.zones.proofs.Admitted.{apart_after, change_is, room_after, stretched_after, zoned_after}
+use Rattle.zones.proofs.Admitted.{IsMade, apart_after, change_is, room_after, stretched_after, zoned_after}
 use Rattle.zones.proofs.EdgesOf.{edges_elsewhere}
 use Rattle.zones.proofs.Held.{only_after}
 use Rattle.zones.proofs.Rows.{changed_rows, of_rows}
@@ -63,15 +63,16 @@ pub together_unjudged : (claim : ClaimModel) (table : TableModel) (members : Mem
 together_unjudged claim table members records zones stretches together edit accepted old_is new_is held =
     let ops = table.ops in
     let after = edited ops edit in
-    let apart = together.apart in
     let new = new_op ops edit in
+    let is_made : IsMade claim ops edit None None after = record { apart = together.apart; accepted = accepted; goes = old_is; comes = new_is; made = refl } in
+    let change = change_is is_made in
     record {
-      apart = apart_after claim ops edit apart accepted None None old_is new_is after refl;
-      members_of = same_members ops after members together.members_of (change_is claim ops edit apart accepted None None old_is new_is after refl);
-      records_of = same_records ops after records together.records_of (change_is claim ops edit apart accepted None None old_is new_is after refl);
-      zoned = zoned_after claim ops edit apart accepted None None old_is new_is after refl None None refl refl (None, None) (None, None) zones together.zoned
+      apart = apart_after is_made;
+      members_of = same_members ops after members together.members_of change;
+      records_of = same_records ops after records together.records_of change;
+      zoned = zoned_after is_made (None, None) (None, None) zones together.zoned
           (record { one = refl; other = refl }) (record { one = refl; other = refl }) zones.zones (no_zones zones.zones);
-      stretched = stretched_after claim ops edit apart accepted None None old_is new_is after refl None None refl refl (None, None) (None, None) stretches together.stretched
+      stretched = stretched_after is_made (None, None) (None, None) stretches together.stretched
           (record { one = refl; other = refl }) (record { one = refl; other = refl }) stretches.stretches (no_stretches stretches.stretches);
       spare = together.spare;
       room = room_after members records zones stretches table.prepared together.room members records zones stretches new (places_of table.prepared members records zones stretches together.room) (λ none. omega arith) (λ none. omega arith) (λ none. omega arith);

@@ -29,7 +29,7 @@ module _ (claim : ClaimModel) (ops : List Op) (op : Op) where
 
   module _ (apart : AreManyWriters claim ops) (write : Op) (is : IsTheWriteAt ops (value_of op.act) write) where
     one_holder : (x : Op) → Contains ops x → IsTrue (is_holder op x) → (x ≡ write) × (x.id ≢ op.id)
-    one_holder x h t = let (n, w, e) = (Decides-is_holder op x).0 t in (one_value claim ops apart x write h is.stands w is.write (e ∙ sym is.same), n)
+    one_holder x h t = let (n, w, e) = (Decides-is_holder op x).0 t in (one_value claim ops apart x write h is.present w is.write (e ∙ sym is.same), n)
 
     pub itself_holds : same_id write.id op.id ≡ true → find (is_holder op) ops ≡ None
     itself_holds s = find-none (is_holder op) ops (all_from (λ x. ¬ IsTrue (is_holder op x)) ops (λ x h t.
@@ -42,7 +42,7 @@ module _ (claim : ClaimModel) (ops : List Op) (op : Op) where
         holds = (Decides-is_holder op write).1 ((λ e. both_ways (same_id write.id op.id) s ((Decides-same_id_is write.id op.id).1 e)), is.write, is.same)
 
         by_found : (found : Option Op) → find (is_holder op) ops ≡ found → found ≡ Some write
-        by_found None e = absurd (both_ways (is_holder op write) (All-contains (λ x. is_holder op x ≡ false) ops write (find-None (is_holder op) ops e) is.stands) holds)
+        by_found None e = absurd (both_ways (is_holder op write) (All-contains (λ x. is_holder op x ≡ false) ops write (find-None (is_holder op) ops e) is.present) holds)
         by_found (Some x) e = let (h, t) = find-Some (is_holder op) ops x e in ap Some (one_holder x h t).0
 
   -- the holder of a value that is not the initial one

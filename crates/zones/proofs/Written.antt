@@ -16,7 +16,7 @@ use Rattle.zones.specs.Cluster.{cluster_of, edge_of_end, greatest_begin_in, init
 use Rattle.zones.specs.Members.{HasWrite, IsTheWriteAt, IsChange}
 use Rattle.zones.proofs.Fresh.{fresh_is_new}
 use Rattle.zones.proofs.Judged.{is_judged, judged_write}
-use Rattle.zones.proofs.Members.{Decides-same_value, here, there, contains_cases, kept, kept_stands, mapped}
+use Rattle.zones.proofs.Members.{Decides-same_value, here, there, contains_cases, kept, kept_present, mapped}
 use Rattle.zones.proofs.EdgeOrder.{AtMost, at_most_both, before_all}
 use Rattle.zones.proofs.Cluster.{IsMember, EdgeIn, edges_in_order, left, least_held, least_at_most, least_initial, greatest_held, greatest_at_least, left_initial, left_in, settle, value_is}
 use Rattle.zones.proofs.Edited.{from_map}
@@ -29,7 +29,7 @@ pub written_cases : (initial : Value) (ops : List Op) (v : Value) → IsWritten 
 written_cases initial ops v h = by_cases (contains_cases initial (map (λ w. value_of w.act) (writes ops)) v h)
   where
     by_write : (w : Op) × Contains (writes ops) w × (value_of w.act ≡ v) → (w : Op) × IsTheWriteAt ops v w
-    by_write (w, k, e) = let (stands, write) = kept_stands is_write ops w k in (w, record { stands = stands; write = write; same = e })
+    by_write (w, k, e) = let (present, write) = kept_present is_write ops w k in (w, record { present = present; write = write; same = e })
 
     by_cases : (initial ≡ v) ⊎ Contains (map (λ w. value_of w.act) (writes ops)) v → (initial ≡ v) ⊎ ((w : Op) × IsTheWriteAt ops v w)
     by_cases (inl e) = inl e
@@ -42,10 +42,10 @@ pub written_by : (initial : Value) (ops : List Op) (v : Value) (w : Op) → IsTh
 written_by initial ops v w is =
     there initial (map (λ w. value_of w.act) (writes ops)) v
     (subst (λ (u : Value). Contains (map (λ w. value_of w.act) (writes ops)) u) is.same
-    (mapped (λ w. value_of w.act) (writes ops) w (kept is_write ops w is.stands is.write)))
+    (mapped (λ w. value_of w.act) (writes ops) w (kept is_write ops w is.present is.write)))
 
 pub write_member : (initial : Value) (ops : List Op) (v : Value) (w : Op) → IsTheWriteAt ops v w → IsMember initial ops v w
-write_member initial ops v w is = (kept is_judged ops w is.stands (judged_write w is.write), is.same)
+write_member initial ops v w is = (kept is_judged ops w is.present (judged_write w is.write), is.same)
 
 -- the left edges of different values that have a write are different
 edge_written : (initial : Value) (ops : List Op) (v : Value) → IsWritten initial ops v → EdgeIn initial ops v (left initial ops v)
@@ -89,14 +89,14 @@ module _ (before : List Op) (old new : Option Op) (after : List Op) (change : Is
     where
       by_place : (old ≡ Some w) ⊎ Contains (judged after) w → HasWrite after v
       by_place (inl e) = absurd (apart w e is.same)
-      by_place (inr k) = (w, record { stands = (kept_stands is_judged after w k).0; write = is.write; same = is.same })
+      by_place (inr k) = (w, record { present = (kept_present is_judged after w k).0; write = is.write; same = is.same })
 
   pub write_stood : ((op : Op) → new ≡ Some op → value_of op.act ≢ v) → HasWrite after v → HasWrite before v
   write_stood apart (w, is) = by_place (change.stood w (write_member v after v w is).0)
     where
       by_place : (new ≡ Some w) ⊎ (Contains (judged before) w × (old ≢ Some w)) → HasWrite before v
       by_place (inl e) = absurd (apart w e is.same)
-      by_place (inr (k, n)) = (w, record { stands = (kept_stands is_judged before w k).0; write = is.write; same = is.same })
+      by_place (inr (k, n)) = (w, record { present = (kept_present is_judged before w k).0; write = is.write; same = is.same })
 
 -- a change touches only the values of the operations that go and come
 module _ (initial : Value) (before : List Op) (old new : Option Op) (after : List Op) (change : IsChange before old new after) (v : Value) where
@@ -152,6 +152,6 @@ written_zone_kept before old new after change v not_old not_new =
 pub one_left : (ops : List Op) → HasDistinctMoments ops → (u v : Value) → HasWrite ops u → HasWrite ops v → (written_zone ops u).left ≡ (written_zone ops v).left → u ≡ v
 one_left ops moments u v (w, is) (x, is_x) e =
     let i = unused_value ops in
-    let new : (v : Value) (w : Op) → IsTheWriteAt ops v w → v ≢ i = λ v w is f. fresh_is_new ops w is.stands (is.same ∙ f) in
+    let new : (v : Value) (w : Op) → IsTheWriteAt ops v w → v ≢ i = λ v w is f. fresh_is_new ops w is.present (is.same ∙ f) in
     left_apart i ops moments u v (written_by i ops u w is) (written_by i ops v x is_x)
     (ap (λ (z : Zone). z.left) (written_zone_is i ops u (new u w is)) ∙ (e ∙ ap (λ (z : Zone). z.left) (sym (written_zone_is i ops v (new v x is_x)))))

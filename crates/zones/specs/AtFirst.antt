@@ -21,8 +21,8 @@ pub record IsWriteless (claim : ClaimModel) (ops : List Op) (r : Op) : Type 0 wh
 
 -- a split: two writeless reads (`IsWriteless`) of different values
 pub record IsSplit (claim : ClaimModel) (ops : List Op) (a b : Op) : Type 0 where
-  pub a_stands : Contains ops a
-  pub b_stands : Contains ops b
+  pub a_present : Contains ops a
+  pub b_present : Contains ops b
   pub one : IsWriteless claim ops a
   pub other : IsWriteless claim ops b
   pub apart : value_of b.act ≢ value_of a.act

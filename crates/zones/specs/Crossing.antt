@@ -28,10 +28,10 @@ HasEndedBefore (Some a) b = Precedes a b
 -- a crossing: a and d have one value, b and c another, a ends before b begins, and c before d begins; a or c may be
 -- none, the initial write
 pub record IsCrossing (initial : Value) (ops : List Op) (a : Option Op) (b : Op) (c : Option Op) (d : Op) : Type 0 where
-  pub a_stands : StandsJudged ops a
-  pub b_stands : Contains (judged ops) b
-  pub c_stands : StandsJudged ops c
-  pub d_stands : Contains (judged ops) d
+  pub a_present : StandsJudged ops a
+  pub b_present : Contains (judged ops) b
+  pub c_present : StandsJudged ops c
+  pub d_present : Contains (judged ops) d
   pub one_value : value_at initial a ≡ value_of d.act
   pub other_value : value_at initial c ≡ value_of b.act
   pub apart : value_of b.act ≢ value_of d.act

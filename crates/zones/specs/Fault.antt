@@ -28,7 +28,7 @@ HasLateWrite ops r = Any (λ w. IsEarly r w) ops
 
 -- one of the operations that has the property, and no operation with the property ended before it
 pub record IsFirstOf (Property : Op → Type 0) (ops : List Op) (r : Op) : Type 0 where
-  pub stands : Contains ops r
+  pub present : Contains ops r
   pub holds : Property r
   pub first : All (λ other. Property other → end_number r ≤ end_number other) ops
 

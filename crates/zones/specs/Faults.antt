@@ -7,8 +7,8 @@ use Rattle.intervals.specs.Moments.{same_moment}
 use Rattle.intervals.specs.Operation.{IsJudgedRead, is_judged_read, is_write, value_of, same_value}
 use Rattle.intervals.specs.Standing.{IsInitial}
 use Rattle.intervals.specs.Terms.{ClaimModel}
-use Rattle.stretch_tree.specs.declared.stretch.Stretch.{Stretch}
-use Rattle.stretch_tree.specs.Order.{moment_before}
+use Rattle.zone_tree.specs.declared.stretch.Stretch.{Stretch}
+use Rattle.zone_tree.specs.StretchOrder.{moment_before}
 use Rattle.zone_tree.specs.declared.edge.Edge.{Edge}
 use Rattle.zone_tree.specs.declared.edge.Edge.TheVariants.{Before, At, Never}
 use Rattle.zone_tree.specs.Edge.{ComesBefore}

@@ -18,7 +18,7 @@ pub record IsLastToBegin (ops : List Op) (value : Value) (op : Op) : Type 0 wher
 
 -- it is the write of the value
 pub record IsTheWriteAt (ops : List Op) (value : Value) (op : Op) : Type 0 where
-  pub stands : Contains ops op
+  pub present : Contains ops op
   pub write : IsWrite op
   pub same : value_of op.act ≡ value
 
@@ -49,7 +49,7 @@ HasNoRead ops value = All (λ r. IsJudgedRead r → value_of r.act ≢ value) op
 -- the judged read with this id ended first of those of the value, at this moment
 pub record EndsFirstOf (ops : List Op) (value : Value) (end : Moment) (id : OpId) : Type 0 where
   pub read : Op
-  pub stands : Contains ops read
+  pub present : Contains ops read
   pub judged : IsJudgedRead read
   pub same : value_of read.act ≡ value
   pub named : read.id ≡ id
@@ -59,7 +59,7 @@ pub record EndsFirstOf (ops : List Op) (value : Value) (end : Moment) (id : OpId
 -- the judged read with this id began last of those of the value, at this moment
 pub record BeginsLastOf (ops : List Op) (value : Value) (begin : Moment) (id : OpId) : Type 0 where
   pub read : Op
-  pub stands : Contains ops read
+  pub present : Contains ops read
   pub judged : IsJudgedRead read
   pub same : value_of read.act ≡ value
   pub named : read.id ≡ id

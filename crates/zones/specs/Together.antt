@@ -3,7 +3,7 @@ use Rattle.std.specs.Prelude.{ℕ, ◌+◌, ◌≤◌, List, length, Option, IfS
 use Rattle.intervals.specs.declared.operation.Op.{Op}
 use Rattle.intervals.specs.Terms.{ClaimModel}
 use Rattle.intervals.specs.Table.{TableModel}
-use Rattle.stretch_tree.specs.Order.{StretchContents as Stretches}
+use Rattle.zone_tree.specs.StretchOrder.{StretchContents as Stretches}
 use Rattle.zone_tree.specs.Order.{ZoneContents as Zones}
 use Rattle.zones.specs.declared.index.Members.{Members}
 use Rattle.zones.specs.declared.records.Records.{Records}

@@ -24,7 +24,7 @@ struct TurnKey {
 }
 
 #[derive(Clone, Copy)]
-struct Placed<'t> {
+struct OpInTurn<'t> {
     turn: TurnKey,
     op: Op<'t>,
 }
@@ -47,7 +47,7 @@ impl<'t> Clusters<'t> {
     }
 
     /// The judged operations in turn.
-    fn in_turn(&self, alloc: Global) -> Result<Vec<Placed<'t>>, Memory>
+    fn in_turn(&self, alloc: Global) -> Result<Vec<OpInTurn<'t>>, Memory>
         requires { IsFaultless (start_of self.now.claim self.now.ops) self.now.ops }
         ensures arranges { IfOk result (λ placed. Arranges (with_start self.now.claim self.now.ops) self.now.ops (map (λ p. p.op) placed.items)) }
         ensures in_turn { IfOk result (λ placed. IsInTurn (start_of self.now.claim self.now.ops) self.now.ops (map (λ p. p.op) placed.items)) }
@@ -58,7 +58,7 @@ impl<'t> Clusters<'t> {
     }
 
     /// The judged operations, each with its key.
-    fn placed(&self, alloc: Global, slots: &[Option<Op<'t>>]) -> Result<Vec<Placed<'t>>, Memory>
+    fn placed(&self, alloc: Global, slots: &[Option<Op<'t>>]) -> Result<Vec<OpInTurn<'t>>, Memory>
         requires all { ops_in_slots slots.now ≡ self.now.ops }
         requires faultless { IsFaultless (start_of self.now.claim self.now.ops) self.now.ops }
         ensures { IfOk result (λ placed. placed.items ≡ map (placed_of (start_of self.now.claim self.now.ops) self.now.ops) (judged self.now.ops)) }
@@ -71,9 +71,9 @@ impl<'t> Clusters<'t> {
     }
 
     /// Adds the operation in the slot, if there is one and it is judged.
-    fn place_slot(&self, placed: &mut Vec<Placed<'t>>, slot: Option<Op<'t>>) -> Result<(), Memory>
+    fn place_slot(&self, placed: &mut Vec<OpInTurn<'t>>, slot: Option<Op<'t>>) -> Result<(), Memory>
         requires faultless { IsFaultless (start_of self.now.claim self.now.ops) self.now.ops }
-        requires stands { IfSome slot (Contains self.now.ops) }
+        requires present { IfSome slot (Contains self.now.ops) }
         ensures { OnOk result (placed.new.items ≡ placed.old.items ++ map (placed_of (start_of self.now.claim self.now.ops) self.now.ops) (judged (ops_in_slots (slot.entry ∷ [])))) }
     {
         match slot {
@@ -83,14 +83,14 @@ impl<'t> Clusters<'t> {
     }
 
     /// Adds the operation where it is judged.
-    fn place(&self, placed: &mut Vec<Placed<'t>>, op: &Op<'t>) -> Result<(), Memory>
+    fn place(&self, placed: &mut Vec<OpInTurn<'t>>, op: &Op<'t>) -> Result<(), Memory>
         requires faultless { IsFaultless (start_of self.now.claim self.now.ops) self.now.ops }
-        requires stands { Contains self.now.ops op.now }
+        requires present { Contains self.now.ops op.now }
         ensures { OnOk result (placed.new.items ≡ placed.old.items ++ map (placed_of (start_of self.now.claim self.now.ops) self.now.ops) (judged (op.now ∷ []))) }
     {
         if is_judged(op) {
             let turn = self.turn_of(op);
-            placed.push(Placed { turn, op: *op })?;
+            placed.push(OpInTurn { turn, op: *op })?;
         }
         Ok(())
     }
@@ -116,7 +116,7 @@ fn is_judged(op: &Op) -> bool
     op.is_write() || op.end.is_some()
 }
 
-fn ids_of(alloc: Global, placed: &[Placed]) -> Result<Vec<OpId>, Memory>
+fn ids_of(alloc: Global, placed: &[OpInTurn]) -> Result<Vec<OpId>, Memory>
     ensures { IfOk result (λ ids. ids.items ≡ map (λ p. p.op.id) placed.now) }
 {
     let ids = placed.iter().map(|place| place.op.id).collect(alloc)?;

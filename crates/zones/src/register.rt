@@ -37,8 +37,7 @@ use intervals::{
 };
 use std::alloc::Global;
 use std::marker::Model;
-use stretch_tree::StretchTree;
-use zone_tree::{Zone, ZoneTree};
+use zone_tree::{StretchTree, Zone, ZoneTree};
 
 /// The operations of one atomic register, with the clusters of their values.
 #[derive(Drop)]
@@ -354,7 +353,7 @@ impl<'t> Clusters<'t> {
         match self.initial() {
             Some(initial) => self
                 .zones
-                .clean_behind(&initial_zone(&self.records, initial)),
+                .clean_after(&initial_zone(&self.records, initial)),
             None => self.zones.clean(),
         }
     }
@@ -370,7 +369,7 @@ impl<'t> Clusters<'t> {
         match self.initial() {
             Some(initial) => self
                 .zones
-                .first_conflict_behind(&initial_zone(&self.records, initial)),
+                .first_conflict_after(&initial_zone(&self.records, initial)),
             None => self.zones.first_conflict(),
         }
     }

@@ -18,8 +18,7 @@ use crate::index::Members;
 use crate::records::Records;
 use crate::zone_in::is_written;
 use intervals::{Claim, Op, OpTable, Value};
-use stretch_tree::{Stretch, StretchTree};
-use zone_tree::Edge;
+use zone_tree::{Edge, Stretch, StretchTree};
 
 /// The stretch of the value, where that is at fault: some judged read of it ended before its write begins, or it
 /// has no write, and it is not known to be the initial one.

@@ -5,7 +5,7 @@ ghost use Rattle.zones.specs.Faults.{CanStretch, stretch_shape};
 ghost use Rattle.zones.specs.Moves.{AreExchanged, IsChangeAt, IsNew, IsThere, with, without};
 
 use intervals::is_same_value;
-use stretch_tree::{Stretch, StretchTree};
+use zone_tree::{Stretch, StretchTree};
 
 /// Puts two optional stretches in the place of two others. A stretch that does not change is left where it is.
 pub fn exchange_stretches(

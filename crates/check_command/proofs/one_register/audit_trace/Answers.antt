@@ -24,4 +24,4 @@ returns-clause-audit g c =
     let alone : map g.S.Read.remaining c.push_reserved.new.self.items ≡ left ∷ [] = search rules in
     let read : AreReadOf (left ∷ []) logs fed.0 = subst (λ (l : List (Option (List ℕ))). AreReadOf l logs fed.0) alone fed.1 in
     let run : IsRun alone_tower Index 1 fed.0 closed logs = subst (λ (t : TowerModel). IsRun t Index 1 fed.0 closed logs) tower_is fed.2 in
-    audited_as_read c.what_stands_is_after_all_edits.ensures c.texts_decide_nothing.ensures.reply c.texts_decide_nothing.ensures.standing c.texts_decide_nothing.ensures.alike left fed.0 closed logs c.verdict_of-audit.result read run says
+    audited_as_read c.what_is_present_after_all_edits.ensures c.texts_decide_nothing.ensures.reply c.texts_decide_nothing.ensures.standing c.texts_decide_nothing.ensures.alike left fed.0 closed logs c.verdict_of-audit.result read run says

@@ -28,7 +28,7 @@ returns-then-bytes-place-eq34 c =
     let long = length-drop at xs in
     let size : n + 1 ≡ at + n + 1 - at = omega arith in
     text_ended xs c.args.from at (at + n + 1) c.loop-ahead.invariant.low (omega arith) (omega (arith, found.0.high, long))
-    (λ behind. quote_found bytes behind n found.0 here ∙ ap Some size) c.loop-ahead.invariant.same
+    (λ following. quote_found bytes following n found.0 here ∙ ap Some size) c.loop-ahead.invariant.same
 
 pub returns-then-place-bytes : goal.returns-then-place-bytes
 returns-then-place-bytes c =
@@ -42,10 +42,10 @@ returns-then-place-bytes c =
     let long = length-drop at xs in
     let size : n ≡ at + n - at = omega arith in
     text_escaped xs c.args.from at (at + n) c.loop-ahead.invariant.low (omega arith) (omega arith) (sym there ∙ slash)
-    (λ behind.
-    backslash_last bytes behind n found.0 (omega (arith, long))
-    ∙ ap (λ (k : ℕ). add_length k (quoted_length (get_or bytes n 0 ∷ behind))) size
-    ∙ ap (λ (b : ℕ). add_length (at + n - at) (quoted_length (b ∷ behind))) there)
+    (λ following.
+    backslash_last bytes following n found.0 (omega (arith, long))
+    ∙ ap (λ (k : ℕ). add_length k (quoted_length (get_or bytes n 0 ∷ following))) size
+    ∙ ap (λ (b : ℕ). add_length (at + n - at) (quoted_length (b ∷ following))) there)
     c.loop-ahead.invariant.same
 
 pub loop-ahead-preserved : goal.loop-ahead-preserved
@@ -66,10 +66,10 @@ loop-ahead-preserved c =
       low = omega arith;
       within = omega (arith, more, long);
       same = same_text_on xs c.args.from at (at + n + 2) c.loop-ahead.invariant.low (omega arith)
-          (λ behind.
-          backslash_found bytes behind n found.0 slash more
-          ∙ ap (λ (k : ℕ). add_length k (quoted_length (drop (n + 2) bytes ++ behind))) size
-          ∙ ap (λ (ys : List ℕ). add_length (at + n + 2 - at) (quoted_length (ys ++ behind))) left)
+          (λ following.
+          backslash_found bytes following n found.0 slash more
+          ∙ ap (λ (k : ℕ). add_length k (quoted_length (drop (n + 2) bytes ++ following))) size
+          ∙ ap (λ (ys : List ℕ). add_length (at + n + 2 - at) (quoted_length (ys ++ following))) left)
           c.loop-ahead.invariant.same;
     }
 
@@ -78,4 +78,4 @@ returns c =
     let xs = c.args.bytes.now in
     let at = c.loop-ahead.at in
     let nowhere = subst (λ (ys : List ℕ). Nowhere (Passes (is_byte2 34 92) ys) 0 (length ys)) (from_index xs at) c.in_default.ensures in
-    text_open xs c.args.from at c.loop-ahead.invariant.low c.loop-ahead.invariant.within (λ behind. sign_nowhere (drop at xs) behind nowhere) c.loop-ahead.invariant.same
+    text_open xs c.args.from at c.loop-ahead.invariant.low c.loop-ahead.invariant.within (λ following. sign_nowhere (drop at xs) following nowhere) c.loop-ahead.invariant.same

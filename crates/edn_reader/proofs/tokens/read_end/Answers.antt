@@ -24,22 +24,22 @@ pub returns-then-has-clause-reads : goal.returns-then-has-clause-reads
 returns-then-has-clause-reads c =
     let begun = c.args.begun in
     let opens = c.args.nesting.now in
-    let stands : EndStands c.args.end begun opens c.if-begun-end.nesting = elim c.if-begun-end.branch [
+    let present : EndStands c.args.end begun opens c.if-begun-end.nesting = elim c.if-begun-end.branch [
       | then-begun-end+in-Ok-None w ↦
           let given = rw (w.in-Ok-None.field-0-is, w.last.ensures) at w.in-Ok-None.ensures.gives in
           subst (EndStands c.args.end begun opens) (sym w.nesting-is) (end_on c.args.end begun opens w.take.new.nesting w.if-begun-end.true given)
       | else-begun-end w ↦ subst (EndStands c.args.end begun opens) (sym w.nesting-is) (end_same c.args.end begun opens w.if-begun-end.false)
     ] in
-    end_text c.args.end begun opens c.if-begun-end.nesting stands (sym c.has.ensures ∙ c.if-has.true)
+    end_text c.args.end begun opens c.if-begun-end.nesting present (sym c.has.ensures ∙ c.if-has.true)
 
 pub returns-else-has-clause-reads : goal.returns-else-has-clause-reads
 returns-else-has-clause-reads c =
     let begun = c.args.begun in
     let opens = c.args.nesting.now in
-    let stands : EndStands c.args.end begun opens c.if-begun-end.nesting = elim c.if-begun-end.branch [
+    let present : EndStands c.args.end begun opens c.if-begun-end.nesting = elim c.if-begun-end.branch [
       | then-begun-end+in-Ok-None w ↦
           let given = rw (w.in-Ok-None.field-0-is, w.last.ensures) at w.in-Ok-None.ensures.gives in
           subst (EndStands c.args.end begun opens) (sym w.nesting-is) (end_on c.args.end begun opens w.take.new.nesting w.if-begun-end.true given)
       | else-begun-end w ↦ subst (EndStands c.args.end begun opens) (sym w.nesting-is) (end_same c.args.end begun opens w.if-begun-end.false)
     ] in
-    end_open c.args.end begun opens c.if-begun-end.nesting stands (sym c.has.ensures ∙ c.if-has.false)
+    end_open c.args.end begun opens c.if-begun-end.nesting present (sym c.has.ensures ∙ c.if-has.false)

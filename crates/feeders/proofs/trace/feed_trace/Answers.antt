@@ -45,7 +45,7 @@ loop-element-preserved g c =
       within = forward.1;
       place = omega (arith, forward.0, place, before, c.pair.ensures.place);
       ahead = c.in_default.ensures.ahead;
-      so_far = read_on setting trace c.loop-element.reader.at c.next.new.self.at c.loop-element.progress c.pair.new.self c.carry_out.new.self c.loop-element.pass c.carry_out.new.pass piece c.read_item.result c.in_ok-step-in-Ok-Some.step
+      so_far = read_on setting trace c.loop-element.reader.at c.next.new.self.at c.loop-element.progress c.pair.new.self c.take_step.new.self c.loop-element.pass c.take_step.new.pass piece c.read_item.result c.in_ok-step-in-Ok-Some.step
           c.loop-element.invariant.so_far goes c.read_item.ensures.item c.in_ok-step-in-Ok-Some.ensures.paired c.in_default.ensures.done;
     }
 
@@ -59,12 +59,12 @@ returns-in-Err-clause-fed g c =
     (broken_at c.loop-element.reader.input c.loop-element.reader.at c.in-Err.fault broken (sym c.broken_by.ensures ∙ c.in-Some.is) c.in-Err.ensures.fault))
     c.end-in-Err.ensures.pass c.end-in-Err.ensures.lines c.end-in-Err.ensures.broken
 
-pub returns-in-Err-carry_out-clause-fault : goal.returns-in-Err-carry_out-clause-fault
-returns-in-Err-carry_out-clause-fault g c =
+pub returns-in-Err-take_step-clause-fault : goal.returns-in-Err-take_step-clause-fault
+returns-in-Err-take_step-clause-fault g c =
     let setting = setting_of g.O.Opening.plan c.args.site.tower.now c.args.site.field (first_start c.args.pass.feeder) in
     let known = read_known setting c.args.trace.now c.loop-element.reader.at c.loop-element.progress c.pair.new.self c.loop-element.pass (piece_of c.in-Ok-Some.element) c.read_item.result c.in_ok-step-in-Ok-Some.step
     c.items_name_registers_of_the_tower.ensures c.steps_are_on_named_registers.ensures c.requires.of_tower c.loop-element.invariant.so_far c.read_item.ensures.item c.in_ok-step-in-Ok-Some.ensures.paired in
-    stop_ends g.O.Opening.plan c.carry_out.new.pass c.in-Err-carry_out.fault (c.in-Err-carry_out.ensures.fault known.0 known.1)
+    stop_ends g.O.Opening.plan c.take_step.new.pass c.in-Err-take_step.fault (c.in-Err-take_step.ensures.fault known.0 known.1)
 
 pub returns-in-Ok-None-clause-fed : goal.returns-in-Ok-None-clause-fed
 returns-in-Ok-None-clause-fed g c =

@@ -3,7 +3,7 @@ use Rattle.std.specs.Prelude.{IfSome, option_map}
 use Rattle.std.specs.Borrow.{Bor}
 use Rattle.std.specs.Io.KnownBytes.{Appends}
 use Rattle.words.specs.Words.{asked_lint}
-use Rattle.lint_command.specs.declared.looking.Told.{Told}
+use Rattle.lint_command.specs.declared.looking.Printout.{Printout}
 use Rattle.lint_command.proofs.Findings.{HasLooked, looked_alone, looked_by}
 use Rattle.command_parts.proofs.Readings.{held_later, read_known}
 use Rattle.lint_command.proofs.looking.look.Goals.{in-None+in_ok-told-in-None, in-Some+in_ok-told-in-Some}
@@ -21,7 +21,7 @@ returns-in-Ok-write_text-clause-looked g c = λ traces held.
     let later = held_later files (g.F.Files.held c.read_named.new.files) asked.traces.items c.deref.result.now traces c.read_named.ensures.stays c.deref.ensures.value held in
     let are_read = read_known c.in_ok-texts.texts.items traces (c.in_ok-texts.ensures.held traces later) in
     let are : map (λ slice. slice.now) c.in-Ok.slices.items ≡ traces = rw (c.in-Ok.ensures, c.deref-2.ensures.value) are_read in
-    let tells : Told → Type 0 = λ told. HasLooked (asked_lint asked) files traces denied (string_bytes told.text) told.status in
+    let tells : Printout → Type 0 = λ told. HasLooked (asked_lint asked) files traces denied (string_bytes told.text) told.status in
     let looked : tells c.match-asked.told =
     elim c.match-asked.branch [
       | in-None+in_ok-told-in-None w ↦

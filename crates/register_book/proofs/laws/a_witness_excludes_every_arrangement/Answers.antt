@@ -12,9 +12,9 @@ returns-clause-excluding c = λ claim ops witness kind h.
     excluding claim ops kind
     (λ r e.
     let (known, first) = unwritten_known claim ops r e in
-    let f = c.first_unwritten_ended_first.ensures.first claim.initial ops r first in (known, f.stands, f.holds))
+    let f = c.first_unwritten_ended_first.ensures.first claim.initial ops r first in (known, f.present, f.holds))
     (λ a b e. ((c.first_split_ended_first.ensures.first claim ops a b e).0, c.first_split_ended_first.ensures.split claim ops a b e))
-    (λ r w e. let f = c.first_early_ended_first.ensures.first ops r w e in (f.0.stands, f.1, f.2))
+    (λ r w e. let f = c.first_early_ended_first.ensures.first ops r w e in (f.0.present, f.1, f.2))
     (λ a b x d first. c.one_first_crossing.ensures.crossing (start_of claim ops) ops a b x d (c.one_first_crossing.ensures.start claim ops a b x d first)) witness h
 
 pub returns-clause-excludes : goal.returns-clause-excludes

@@ -12,4 +12,4 @@ returns c =
     let by : c.ops_by.result ≡ pair_by held.ops (option_map (λ pair. (pair.0.id, pair.1.id)) (first_early held.ops)) = search rules in
     by ∙ pair_found_again held.ops (first_early held.ops) (λ r w e.
     let h = c.first_early_ended_first.ensures.first held.ops r w e in
-    (found_by_id held.ops r c.requires h.0.stands, found_by_id held.ops w c.requires h.1))
+    (found_by_id held.ops r c.requires h.0.present, found_by_id held.ops w c.requires h.1))

@@ -13,4 +13,4 @@ returns c =
     by
     ∙ pair_found_again held.ops (first_split held.claim held.ops) (λ a b e.
     let s = c.first_split_ended_first.ensures.split held.claim held.ops a b e in
-    (found_by_id held.ops a c.requires s.a_stands, found_by_id held.ops b c.requires s.b_stands))
+    (found_by_id held.ops a c.requires s.a_present, found_by_id held.ops b c.requires s.b_present))

@@ -13,4 +13,4 @@ returns c =
     let by : c.find.result ≡ found_by held.ops (option_map (λ op. op.id) (unwritten_of held.claim held.ops)) = search rules in
     by
     ∙ found_again held.ops (unwritten_of held.claim held.ops) (λ r e.
-    found_by_id held.ops r c.requires (c.first_unwritten_ended_first.ensures.first held.claim.initial held.ops r (unwritten_known held.claim held.ops r e).1).stands)
+    found_by_id held.ops r c.requires (c.first_unwritten_ended_first.ensures.first held.claim.initial held.ops r (unwritten_known held.claim held.ops r e).1).present)

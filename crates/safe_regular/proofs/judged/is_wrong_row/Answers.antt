@@ -3,7 +3,7 @@ use Rattle.std.specs.Prelude.{IfSome}
 use Rattle.intervals.specs.Edit.{found_by}
 use Rattle.intervals.specs.Operation.{IsJudgedRead}
 use Rattle.intervals.specs.Terms.{terms_of}
-use Rattle.intervals.proofs.Ids.{found_stands}
+use Rattle.intervals.proofs.Ids.{found_present}
 use Rattle.safe_regular.proofs.RowsAfter.{id_is, row_as}
 use Rattle.safe_regular.proofs.judged.is_wrong_row.Goals as goal
 
@@ -13,7 +13,7 @@ returns-then-end_number-row c are apart =
     let row = c.args.row.now in
     let op = c.in-Some.op in
     let found : found_by ops (Some row.id) ≡ Some op = sym c.find.ensures ∙ c.in-Some.is in
-    let (stands, id) = found_stands ops (Some row.id) op found in
+    let (present, id) = found_present ops (Some row.id) op found in
     let judged : IsJudgedRead op = sym c.is_judged_read.ensures ∙ c.if-is_judged_read.true in
-    subst (λ (b : Bool). IfSome c.is_wrong.result (λ wrong. wrong ≡ b)) (sym (row_as (terms_of c.args.claim.now) ops apart row op stands (id_is op.id row.id id) (sym (sym c.end_number.ensures ∙ c.if-end_number-row.true))))
-    (c.is_wrong.ensures are apart stands judged)
+    subst (λ (b : Bool). IfSome c.is_wrong.result (λ wrong. wrong ≡ b)) (sym (row_as (terms_of c.args.claim.now) ops apart row op present (id_is op.id row.id id) (sym (sym c.end_number.ensures ∙ c.if-end_number-row.true))))
+    (c.is_wrong.ensures are apart present judged)

@@ -14,6 +14,6 @@ returns c = record {
       record {
         within = within;
         before = λ k d lt. ltb-true _ _ (point.0 k d (omega arith) lt);
-        behind = λ k d ge lt. ltb-false _ _ (point.1 k d ge lt);
+        following = λ k d ge lt. ltb-false _ _ (point.1 k d ge lt);
       };
 }

@@ -35,4 +35,4 @@ returns-then-not-keeps_its_cover-clause-free c none =
 pub returns-else-not-keeps_its_cover-clause-changed : goal.returns-else-not-keeps_its_cover-clause-changed
 returns-else-not-keeps_its_cover-clause-changed c =
     let kept = c.requires.change.kept (c.keeps_its_cover.ensures c.if-not-keeps_its_cover.false) in
-    record { item = Some kept.item; is = kept.is; exchanged = is_exchanged_itself _ kept.item c.args.line.now.items c.requires.change.order kept.stands kept.place }
+    record { item = Some kept.item; is = kept.is; exchanged = is_exchanged_itself _ kept.item c.args.line.now.items c.requires.change.order kept.present kept.place }

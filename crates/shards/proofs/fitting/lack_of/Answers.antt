@@ -7,7 +7,7 @@ use Rattle.shards.proofs.fitting.lack_of.Goals.{in-Some+in_default-first_lack, i
 pub returns-in-Some-first_lack-clause-unfit : goal.returns-in-Some-first_lack-clause-unfit
 returns-in-Some-first_lack-clause-unfit g c =
     unfit c.args.passes.now c.args.shard.now.at c.args.place c.loop-feeder.feeder c.in-Some-first_lack.seen c.as_slice-journal.result.now c.args.shard.now.journal.items c.in-Some.pass.now
-    c.as_slice-journal.ensures.value c.if-shard-place.false c.in-Some.ensures.found.1 c.in-Some.ensures.found.0 c.in-Some-first_lack.ensures.behind c.loop-feeder.invariant
+    c.as_slice-journal.ensures.value c.if-shard-place.false c.in-Some.ensures.found.1 c.in-Some.ensures.found.0 c.in-Some-first_lack.ensures.following c.loop-feeder.invariant
 
 pub loop-feeder-preserved : goal.loop-feeder-preserved
 loop-feeder-preserved g c =

@@ -18,7 +18,7 @@ loop-number-preserved c =
     record {
       from = omega (arith, so_far.from);
       to = omega (arith, c.loop-number-test.true);
-      behind = omega (arith, so_far.behind, is);
+      following = omega (arith, so_far.following, is);
       kept = put_before_more places wants c.args.from number place next none (omega (arith, is)) (omega (arith, is, c.wanted.ensures.value)) inside so_far.kept;
       tight = put_by_more places wants c.args.from number c.args.least place next c.wanted.result none so_far.from c.wanted.ensures.value inside by so_far.tight;
       bounded = omega (arith, is, so_far.bounded, c.wanted.ensures.bounded);

@@ -8,7 +8,7 @@ abbrev pub invariant-loop-number : goal.invariant-loop-number
 invariant-loop-number l = record {
   from : l.from ≤ l.number;
   to : l.number ≤ l.to;
-  behind : l.least ≤ l.place;
+  following : l.least ≤ l.place;
   kept : AllWithin (IsPutBefore l.places l.place) l.wants l.from l.number;
   tight : (l.place ≡ l.least) ⊎ IsPutBy l.places l.wants l.from l.number l.place;
   bounded : IsBounded (length l.places) l.place;

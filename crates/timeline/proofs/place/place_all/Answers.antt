@@ -19,13 +19,13 @@ loop-number-preserved c =
     let placed = c.loop-number.invariant.placed in
     let first : c.deref.result.now ≡ places = c.deref.ensures.value in
     let second : c.deref-in-loop-number.result.now ≡ places = c.deref-in-loop-number.ensures.value in
-    let least : c.behind-least.result ≡ before places number + slice_index steps number =
-    c.behind-least.ensures.value ∙ ap (λ (ps : List ℕ). before ps (length ps) + slice_index steps number) first ∙ ap (λ (n : ℕ). before places n + slice_index steps number) placed.many in
+    let least : c.following-least.result ≡ before places number + slice_index steps number =
+    c.following-least.ensures.value ∙ ap (λ (ps : List ℕ). before ps (length ps) + slice_index steps number) first ∙ ap (λ (n : ℕ). before places n + slice_index steps number) placed.many in
     let bounded : IsBounded number place = subst (λ (n : ℕ). IsBounded n place) (ap length second ∙ placed.many) c.farthest.ensures.bounded in
-    let behind : before places number + slice_index steps number ≤ place = omega (arith, least, c.farthest.ensures.behind) in
+    let following : before places number + slice_index steps number ≤ place = omega (arith, least, c.farthest.ensures.following) in
     let put : AllWithin (IsPutBefore places place) wants next end = subst (λ (ps : List ℕ). AllWithin (IsPutBefore ps place) wants next end) second c.farthest.ensures.kept in
     record {
       within = omega (arith, c.loop-number-test.true);
       next = c.end_of-end.ensures.within.1;
-      placed = placed_more steps places wants number next end place none placed c.requires.within c.end_of-end.ensures.within c.end_of-end.ensures.here c.push.new.self.items c.in_ok-push.ensures.items bounded behind put (tight_by places c.deref-in-loop-number.result.now wants next end place c.behind-least.result (before places number + slice_index steps number) second least c.farthest.ensures.tight) c.end_of-end.ensures.left;
+      placed = placed_more steps places wants number next end place none placed c.requires.within c.end_of-end.ensures.within c.end_of-end.ensures.here c.push.new.self.items c.in_ok-push.ensures.items bounded following put (tight_by places c.deref-in-loop-number.result.now wants next end place c.following-least.result (before places number + slice_index steps number) second least c.farthest.ensures.tight) c.end_of-end.ensures.left;
     }

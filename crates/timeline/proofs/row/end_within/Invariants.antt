@@ -5,7 +5,7 @@ use Rattle.timeline.proofs.row.end_within.Given as goal
 
 abbrev pub invariant-loop-end : goal.invariant-loop-end
 invariant-loop-end l = record {
-  behind : l.start < l.end;
+  following : l.start < l.end;
   within : l.end ≤ l.many;
   row : (l.end ≡ l.start + 1) ⊎ (slice_index l.places (l.end - 1) ≤ l.farthest);
 }

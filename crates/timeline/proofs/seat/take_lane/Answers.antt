@@ -13,8 +13,8 @@ returns-in-Some-clause-after c =
 
 pub returns-in_ok-push-in-None-clause-free : goal.returns-in_ok-push-in-None-clause-free
 returns-in_ok-push-in-None-clause-free c =
-    let behind : length c.args.tails.now.items ≤ c.len-lane.result = omega (arith, c.len-lane.ensures) in
-    rw (slice_get_past c.args.tails.now.items c.len-lane.result behind) tt
+    let following : length c.args.tails.now.items ≤ c.len-lane.result = omega (arith, c.len-lane.ensures) in
+    rw (slice_get_past c.args.tails.now.items c.len-lane.result following) tt
 
 pub returns-in_ok-push-in-None-clause-after : goal.returns-in_ok-push-in-None-clause-after
 returns-in_ok-push-in-None-clause-after c =

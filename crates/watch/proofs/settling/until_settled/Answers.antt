@@ -1,7 +1,7 @@
 use Rattle.std.proofs.Common.{◌≡◌, ◌≤◌, ◌<◌, ◌+◌, ◌++◌, List, ℕ, length, vec_len, map, slice_index_or, slice_set, sym, ap, ◌∙◌, arith, rules}
 use Rattle.std.proofs.Math.ListN.{drop_of_length-le}
 use Rattle.std.proofs.lemmas.List.{append-nil, length-map}
-use Rattle.watch.specs.declared.settling.Progress.{Progress}
+use Rattle.watch.specs.declared.settling.FeederProgress.{FeederProgress}
 use Rattle.records.specs.Run.{at_most_u64}
 use Rattle.watch.proofs.Advancing.{none_until, set_until}
 use Rattle.watch.proofs.settling.until_settled.Goals as goal
@@ -12,9 +12,9 @@ returns c =
     let progress = c.args.progress.now in
     let settle = c.args.settle in
     let items = c.loop-one.until.items in
-    let all : items ≡ map (λ (one : Progress). at_most_u64 (one.taken + settle)) progress =
-    sym (append-nil items) ∙ ap (λ (l : List Progress). items ++ map (λ (one : Progress). at_most_u64 (one.taken + settle)) l) (sym (drop_of_length-le progress c.loop-one-test.false)) ∙ c.loop-one.invariant in
-    let long : length items ≡ length progress = ap (length {A = ℕ}) all ∙ length-map progress (λ (one : Progress). at_most_u64 (one.taken + settle)) in
+    let all : items ≡ map (λ (one : FeederProgress). at_most_u64 (one.taken + settle)) progress =
+    sym (append-nil items) ∙ ap (λ (l : List FeederProgress). items ++ map (λ (one : FeederProgress). at_most_u64 (one.taken + settle)) l) (sym (drop_of_length-le progress c.loop-one-test.false)) ∙ c.loop-one.invariant in
+    let long : length items ≡ length progress = ap (length {A = ℕ}) all ∙ length-map progress (λ (one : FeederProgress). at_most_u64 (one.taken + settle)) in
     let many : length items ≡ vec_len c.loop-one.until = search rules in
     elim c.if-own-len.branch [
       | then-own-len w ↦

@@ -56,7 +56,7 @@ first_conflict = record {
     later = [];
     parts = refl;
     clear = pairs_from_each Clear (backward Before Before Nil ∷ forward (at 1) (at 6) (number 1) ∷ []) (search rules);
-    farthest = record { stands = (1, omega arith, refl); forward = refl; farthest = search rules };
+    farthest = record { present = (1, omega arith, refl); forward = refl; farthest = search rules };
     conflict = search rules;
   };
 }

@@ -1,5 +1,5 @@
 use Rattle.std.proofs.Common.{◌∙◌, sym}
-use Rattle.stretch_tree.specs.Look.{is_read_early}
+use Rattle.zone_tree.specs.StretchLook.{is_read_early}
 use Rattle.zones.proofs.FirstStretch.{first_read_early, no_early_shown, read_shown, write_shown}
 use Rattle.zones.proofs.stretch.first_early.Goals as goal
 

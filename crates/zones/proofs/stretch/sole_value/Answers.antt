@@ -1,6 +1,6 @@
 use Rattle.std.proofs.Common.{◌∙◌, Option, Some, None, cond, sym, ap}
 use Rattle.std.specs.Prelude.{is_some}
-use Rattle.stretch_tree.specs.declared.stretch.Stretch.{Stretch}
+use Rattle.zone_tree.specs.declared.stretch.Stretch.{Stretch}
 use Rattle.zones.specs.AtFirst.{sole_of}
 use Rattle.zones.proofs.FirstStretch.{no_writeless_shown, sole_shown}
 use Rattle.zones.proofs.stretch.sole_value.Goals as goal

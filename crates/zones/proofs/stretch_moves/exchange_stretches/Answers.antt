@@ -1,5 +1,5 @@
 use Rattle.std.proofs.Common.{◌≡◌, ◌∙◌, List, Option, sym, ap, subst}
-use Rattle.stretch_tree.specs.declared.stretch.Stretch.{Stretch}
+use Rattle.zone_tree.specs.declared.stretch.Stretch.{Stretch}
 use Rattle.zones.specs.Faults.{stretch_shape}
 use Rattle.zones.specs.Moves.{AreChanges, IsNew, with, without}
 use Rattle.zones.proofs.stretch_moves.exchange_stretches.Goals as goal

@@ -15,6 +15,6 @@ returns-else-is_written c ops value are =
     let h : c.is_written.result ≡ false = search rules in
     record {
       zone = tt;
-      none = λ n stands. absurd (let t : c.is_written.result ≡ true = (c.is_written.ensures ops value are).1 stands in cc);
+      none = λ n present. absurd (let t : c.is_written.result ≡ true = (c.is_written.ensures ops value are).1 present in cc);
       some = λ n. absurd (cc);
     }

@@ -7,4 +7,4 @@ use Rattle.edn_reader.proofs.splitter.Splitter.new.Goals as goal
 
 pub returns : goal.returns
 returns c next =
-    subst (λ (opens : List Open). StandsAfter [] next [] (record { taken = 0; begun = record { start = 0; part = Nothing }; opens = opens; fault = None; ended = c.plain_span.result })) (sym c.new.ensures) (after_nothing next c.plain_span.result)
+    rw c.nothing.ensures (subst (λ (opens : List Open). StandsAfter [] next [] (record { taken = 0; begun = record { start = 0; part = Nothing }; opens = opens; fault = None; ended = c.plain_span.result })) (sym c.new.ensures) (after_nothing next c.plain_span.result))

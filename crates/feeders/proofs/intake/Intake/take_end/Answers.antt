@@ -101,7 +101,7 @@ returns-in_default-broken_by-clause-still g c =
     let place = settled_place old mid.progress.place [] c.requires.can e.place in
     let can = can_beside [] old mid e.beside place.0 place.1 e.can c.requires.can in
     let same : c.end.new.self ≡ mid.splitter =
-    wants_at_end c.in-Err-end.fault mid.splitter c.end.new.self (sym c.broken_by.ensures ∙ c.in_default-broken_by.is) c.in-Err-end.ensures.ends can.bytes can.pieces can.stands in
+    wants_at_end c.in-Err-end.fault mid.splitter c.end.new.self (sym c.broken_by.ensures ∙ c.in_default-broken_by.is) c.in-Err-end.ensures.ends can.bytes can.pieces can.present in
     (subst (λ (s : SplitterModel). CanGoOn [] (record mid { splitter = s })) (sym same) can, ap (λ (s : SplitterModel). s.taken) same ∙ ap (λ (s : SplitterModel). s.taken) e.beside.splitter)
 
 pub returns-in_default-broken_by-clause-waits : goal.returns-in_default-broken_by-clause-waits
@@ -112,7 +112,7 @@ returns-in_default-broken_by-clause-waits g c start bytes fed =
     let place = settled_place old mid.progress.place [] c.requires.can e.place in
     let can = can_beside [] old mid e.beside place.0 place.1 e.can c.requires.can in
     let same : c.end.new.self ≡ mid.splitter =
-    wants_at_end c.in-Err-end.fault mid.splitter c.end.new.self (sym c.broken_by.ensures ∙ c.in_default-broken_by.is) c.in-Err-end.ensures.ends can.bytes can.pieces can.stands in
+    wants_at_end c.in-Err-end.fault mid.splitter c.end.new.self (sym c.broken_by.ensures ∙ c.in_default-broken_by.is) c.in-Err-end.ensures.ends can.bytes can.pieces can.present in
     let setting = setting_of g.O.Opening.plan c.args.site.tower.now c.args.site.field start in
     subst (λ (s : SplitterModel). HasFed setting bytes [] (record mid { splitter = s }) c.settle.new.pass) (sym same)
     (fed_settled setting bytes [] old mid c.args.pass.now c.settle.new.pass fed (e.done start fed.items fed.waiting fed.pending) e.beside place.0 e.settled)

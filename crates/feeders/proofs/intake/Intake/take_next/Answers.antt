@@ -6,7 +6,7 @@ use Rattle.feeders.specs.Intake.{HasFed}
 use Rattle.feeders.specs.Setting.{setting_of}
 use Rattle.feeders.proofs.Fronts.{item_of_front, page_of_front}
 use Rattle.feeders.proofs.Pieces.{broke_at, fed_along, fed_settled, fed_waits, holds_none, holds_same, known_more, taken_is}
-use Rattle.feeders.proofs.Taking.{EndsOne, IsTaken, TookNone, can_read_behind, fed_on, fed_roomed, fed_taken, keeps_fault, settled_place, takes_all, takes_some, used_beside, used_on, used_one, wants_memory, let_go}
+use Rattle.feeders.proofs.Taking.{EndsOne, IsTaken, TookNone, can_read_after, fed_on, fed_roomed, fed_taken, keeps_fault, settled_place, takes_all, takes_some, used_beside, used_on, used_one, wants_memory, let_go}
 use Rattle.feeders.proofs.intake.Intake.take_next.Goals as goal
 
 pub returns-then-is_err-clause-waits : goal.returns-then-is_err-clause-waits
@@ -32,8 +32,8 @@ overflow_sub-used g c =
     let piece : List ℕ = c.args.piece.now in
     let old = c.args.self.now.splitter in
     let wants = wants_memory c.in-Err.fault old c.take_element.new.splitter piece (sym c.broken_by.ensures ∙ c.in_default.is) c.in-Err.ensures.fault in
-    let goes = (wants.1 can.bytes [] can.pieces (known_more can.bytes piece [] can.pieces old can.stands)).1 in
-    omega (arith, goes.0, goes.2, taken_is can.bytes piece can.pieces old can.stands, c.taken.ensures, c.taken-before.ensures)
+    let goes = (wants.1 can.bytes [] can.pieces (known_more can.bytes piece [] can.pieces old can.present)).1 in
+    omega (arith, goes.0, goes.2, taken_is can.bytes piece can.pieces old can.present, c.taken.ensures, c.taken-before.ensures)
 
 pub slice_bounds-take-end : goal.slice_bounds-take-end
 slice_bounds-take-end g c =
@@ -41,8 +41,8 @@ slice_bounds-take-end g c =
     let piece : List ℕ = c.args.piece.now in
     let old = c.args.self.now in
     let wants = wants_memory c.in-Err.fault old.splitter c.take_element.new.splitter piece (sym c.broken_by.ensures ∙ c.in_default.is) c.in-Err.ensures.fault in
-    let goes = (wants.1 can.bytes [] can.pieces (known_more can.bytes piece [] can.pieces old.splitter can.stands)).1 in
-    let long = taken_is can.bytes piece can.pieces old.splitter can.stands in
+    let goes = (wants.1 can.bytes [] can.pieces (known_more can.bytes piece [] can.pieces old.splitter can.present)).1 in
+    let long = taken_is can.bytes piece can.pieces old.splitter can.present in
     sym (length-take-le (c.taken.result - c.taken-before.result) piece (omega (arith, goes.0, goes.1, goes.2, long, c.taken.ensures, c.taken-before.ensures)))
 
 pub take-requires-clause-fits : goal.take-requires-clause-fits
@@ -51,8 +51,8 @@ take-requires-clause-fits g c =
     let piece : List ℕ = c.args.piece.now in
     let old = c.args.self.now in
     let wants = wants_memory c.in-Err.fault old.splitter c.take_element.new.splitter piece (sym c.broken_by.ensures ∙ c.in_default.is) c.in-Err.ensures.fault in
-    let goes = (wants.1 can.bytes [] can.pieces (known_more can.bytes piece [] can.pieces old.splitter can.stands)).1 in
-    let long = taken_is can.bytes piece can.pieces old.splitter can.stands in
+    let goes = (wants.1 can.bytes [] can.pieces (known_more can.bytes piece [] can.pieces old.splitter can.present)).1 in
+    let long = taken_is can.bytes piece can.pieces old.splitter can.present in
     let holds = holds_none old.pending can.bytes old.kept c.requires.settled can.holds in
     let within : c.taken.result - c.taken-before.result ≤ length piece = omega (arith, goes.0, goes.1, goes.2, long, c.taken.ensures, c.taken-before.ensures) in
     omega (arith, c.requires.fits, long, holds.long, within, length-take-le (c.taken.result - c.taken-before.result) piece within, c.make_room.ensures.kept.0, ap length c.make_room.ensures.kept.1)
@@ -63,8 +63,8 @@ returns-in-Err-clause-refused g c =
     let piece : List ℕ = c.args.piece.now in
     let old = c.args.self.now in
     let wants = wants_memory c.in-Err.fault old.splitter c.take_element.new.splitter piece (sym c.broken_by.ensures ∙ c.in_default.is) c.in-Err.ensures.fault in
-    let goes = (wants.1 can.bytes [] can.pieces (known_more can.bytes piece [] can.pieces old.splitter can.stands)).1 in
-    let long = taken_is can.bytes piece can.pieces old.splitter can.stands in
+    let goes = (wants.1 can.bytes [] can.pieces (known_more can.bytes piece [] can.pieces old.splitter can.present)).1 in
+    let long = taken_is can.bytes piece can.pieces old.splitter can.present in
     let used = c.taken.result - c.taken-before.result in
     let within : used ≤ length piece = omega (arith, goes.0, goes.1, goes.2, long, c.taken.ensures, c.taken-before.ensures) in
     let new : Intake = record { splitter = c.take_element.new.splitter; kept = c.take.new.self; progress = old.progress; pending = old.pending } in
@@ -82,8 +82,8 @@ returns-in-Err-clause-waits g c start bytes next fed =
     let piece : List ℕ = c.args.piece.now in
     let old = c.args.self.now in
     let wants = wants_memory c.in-Err.fault old.splitter c.take_element.new.splitter piece (sym c.broken_by.ensures ∙ c.in_default.is) c.in-Err.ensures.fault in
-    let goes = (wants.1 can.bytes [] can.pieces (known_more can.bytes piece [] can.pieces old.splitter can.stands)).1 in
-    let long = taken_is can.bytes piece can.pieces old.splitter can.stands in
+    let goes = (wants.1 can.bytes [] can.pieces (known_more can.bytes piece [] can.pieces old.splitter can.present)).1 in
+    let long = taken_is can.bytes piece can.pieces old.splitter can.present in
     let used = c.taken.result - c.taken-before.result in
     let within : used ≤ length piece = omega (arith, goes.0, goes.1, goes.2, long, c.taken.ensures, c.taken-before.ensures) in
     let new : Intake = record { splitter = c.take_element.new.splitter; kept = c.take.new.self; progress = old.progress; pending = old.pending } in
@@ -100,7 +100,7 @@ take-requires-in_default-whole-clause-fits g c =
     let can = c.requires.can in
     let old = c.args.self.now in
     let holds = holds_none old.pending can.bytes old.kept c.requires.settled can.holds in
-    omega (arith, c.requires.fits, taken_is can.bytes c.args.piece.now can.pieces old.splitter can.stands, holds.long, c.make_room.ensures.kept.0, ap length c.make_room.ensures.kept.1)
+    omega (arith, c.requires.fits, taken_is can.bytes c.args.piece.now can.pieces old.splitter can.present, holds.long, c.make_room.ensures.kept.0, ap length c.make_room.ensures.kept.1)
 
 pub returns-in_default-whole-clause-used : goal.returns-in_default-whole-clause-used
 returns-in_default-whole-clause-used g c =
@@ -110,14 +110,14 @@ returns-in_default-whole-clause-used g c =
     let used = c.in-Ok.next.taken.used in
     let new : Intake = record { splitter = c.take_element.new.splitter; kept = c.take-in_default-whole.new.self; progress = old.progress; pending = old.pending } in
     let takes : (bytes next : List ℕ) (pieces : List ElementModel) → StandsAfter bytes (piece ++ next) pieces old.splitter → TakesUpTo bytes piece next pieces old.splitter used None new.splitter =
-    λ bytes next pieces stands. subst (λ (w : Option (ℕ × ℕ)). TakesUpTo bytes piece next pieces old.splitter used w new.splitter) c.in_default-whole.is (c.in-Ok.ensures.takes bytes next pieces stands) in
+    λ bytes next pieces present. subst (λ (w : Option (ℕ × ℕ)). TakesUpTo bytes piece next pieces old.splitter used w new.splitter) c.in_default-whole.is (c.in-Ok.ensures.takes bytes next pieces present) in
     let on : TookNone piece used old new =
     takes_all piece used old new c.in-Ok.ensures.counted takes can
     (λ taken held. c.take-in_default-whole.ensures.holds taken (holds_same taken old.kept c.make_room.new.self c.make_room.ensures.kept.0 c.make_room.ensures.kept.1 held))
     (λ low. subst (λ (n : ℕ). c.take-in_default-whole.new.self.from ≤ n) c.keep_from.ensures (c.take-in_default-whole.ensures.low (omega (arith, low, c.keep_from.ensures, c.make_room.ensures.kept.0))))
     (let_go old.kept c.make_room.new.self c.take-in_default-whole.new.self c.keep_from.result (length piece) piece c.keep_from.ensures c.make_room.ensures.kept.0 c.make_room.ensures.kept.1 refl c.take-in_default-whole.ensures.let_go)
     c.requires.settled refl c.requires.settled c.requires.fits in
-    let goes = takes can.bytes [] can.pieces (known_more can.bytes piece [] can.pieces old.splitter can.stands) in
+    let goes = takes can.bytes [] can.pieces (known_more can.bytes piece [] can.pieces old.splitter can.present) in
     (used_on piece used old new on c.requires.settled can, c.requires.settled, λ some. omega (arith, some, goes.0, on.taken))
 
 pub returns-in_default-whole-clause-goes : goal.returns-in_default-whole-clause-goes
@@ -128,7 +128,7 @@ returns-in_default-whole-clause-goes g c start bytes next fed =
     let used = c.in-Ok.next.taken.used in
     let new : Intake = record { splitter = c.take_element.new.splitter; kept = c.take-in_default-whole.new.self; progress = old.progress; pending = old.pending } in
     let takes : (bytes next : List ℕ) (pieces : List ElementModel) → StandsAfter bytes (piece ++ next) pieces old.splitter → TakesUpTo bytes piece next pieces old.splitter used None new.splitter =
-    λ bytes next pieces stands. subst (λ (w : Option (ℕ × ℕ)). TakesUpTo bytes piece next pieces old.splitter used w new.splitter) c.in_default-whole.is (c.in-Ok.ensures.takes bytes next pieces stands) in
+    λ bytes next pieces present. subst (λ (w : Option (ℕ × ℕ)). TakesUpTo bytes piece next pieces old.splitter used w new.splitter) c.in_default-whole.is (c.in-Ok.ensures.takes bytes next pieces present) in
     let on : TookNone piece used old new =
     takes_all piece used old new c.in-Ok.ensures.counted takes can
     (λ taken held. c.take-in_default-whole.ensures.holds taken (holds_same taken old.kept c.make_room.new.self c.make_room.ensures.kept.0 c.make_room.ensures.kept.1 held))
@@ -146,8 +146,8 @@ take_whole-requires-clause-can g c κs lives =
     let span : ℕ × ℕ = (c.in-Some-whole.start, c.in-Some-whole.field-0-1) in
     let mid : Intake = record { splitter = c.take_element.new.splitter; kept = c.make_room.new.self; progress = old.progress; pending = old.pending } in
     let ends : EndsOne piece used span old mid =
-    λ bytes next pieces stands. subst (λ (w : Option (ℕ × ℕ)). TakesUpTo bytes piece next pieces old.splitter used w mid.splitter) c.in-Some-whole.is (c.in-Ok.ensures.takes bytes next pieces stands) in
-    can_read_behind piece used span old mid ends c.each_is_element.ensures c.in-Ok.ensures.counted c.make_room.ensures.kept.0 c.make_room.ensures.kept.1 refl c.requires.settled can c.requires.fits
+    λ bytes next pieces present. subst (λ (w : Option (ℕ × ℕ)). TakesUpTo bytes piece next pieces old.splitter used w mid.splitter) c.in-Some-whole.is (c.in-Ok.ensures.takes bytes next pieces present) in
+    can_read_after piece used span old mid ends c.each_is_element.ensures c.in-Ok.ensures.counted c.make_room.ensures.kept.0 c.make_room.ensures.kept.1 refl c.requires.settled can c.requires.fits
 
 pub take_whole-requires-clause-page : goal.take_whole-requires-clause-page
 take_whole-requires-clause-page g c κs lives =
@@ -178,7 +178,7 @@ returns-in-Err-take_whole-clause-refused g c =
     let span : ℕ × ℕ = (c.in-Some-whole.start, c.in-Some-whole.field-0-1) in
     let mid : Intake = record { splitter = c.take_element.new.splitter; kept = c.make_room.new.self; progress = old.progress; pending = old.pending } in
     let ends : EndsOne piece used span old mid =
-    λ bytes next pieces stands. subst (λ (w : Option (ℕ × ℕ)). TakesUpTo bytes piece next pieces old.splitter used w mid.splitter) c.in-Some-whole.is (c.in-Ok.ensures.takes bytes next pieces stands) in
+    λ bytes next pieces present. subst (λ (w : Option (ℕ × ℕ)). TakesUpTo bytes piece next pieces old.splitter used w mid.splitter) c.in-Some-whole.is (c.in-Ok.ensures.takes bytes next pieces present) in
     let new = c.take_whole.new.self in
     let is : IsTaken piece used old mid new =
     record {
@@ -206,7 +206,7 @@ returns-in-Err-take_whole-clause-waits g c start bytes next fed =
     let span : ℕ × ℕ = (c.in-Some-whole.start, c.in-Some-whole.field-0-1) in
     let mid : Intake = record { splitter = c.take_element.new.splitter; kept = c.make_room.new.self; progress = old.progress; pending = old.pending } in
     let ends : EndsOne piece used span old mid =
-    λ bytes next pieces stands. subst (λ (w : Option (ℕ × ℕ)). TakesUpTo bytes piece next pieces old.splitter used w mid.splitter) c.in-Some-whole.is (c.in-Ok.ensures.takes bytes next pieces stands) in
+    λ bytes next pieces present. subst (λ (w : Option (ℕ × ℕ)). TakesUpTo bytes piece next pieces old.splitter used w mid.splitter) c.in-Some-whole.is (c.in-Ok.ensures.takes bytes next pieces present) in
     let new = c.take_whole.new.self in
     let is : IsTaken piece used old mid new =
     record {
@@ -238,7 +238,7 @@ returns-in-Ok-settle-clause-used g c =
     let span : ℕ × ℕ = (c.in-Some-whole.start, c.in-Some-whole.field-0-1) in
     let mid : Intake = record { splitter = c.take_element.new.splitter; kept = c.make_room.new.self; progress = old.progress; pending = old.pending } in
     let ends : EndsOne piece used span old mid =
-    λ bytes next pieces stands. subst (λ (w : Option (ℕ × ℕ)). TakesUpTo bytes piece next pieces old.splitter used w mid.splitter) c.in-Some-whole.is (c.in-Ok.ensures.takes bytes next pieces stands) in
+    λ bytes next pieces present. subst (λ (w : Option (ℕ × ℕ)). TakesUpTo bytes piece next pieces old.splitter used w mid.splitter) c.in-Some-whole.is (c.in-Ok.ensures.takes bytes next pieces present) in
     let new = c.take_whole.new.self in
     let is : IsTaken piece used old mid new =
     record {
@@ -257,7 +257,7 @@ returns-in-Ok-settle-clause-used g c =
     } in
     let first = used_one piece used span old mid new is ends c.requires.settled can in
     let place = settled_place new c.settle.new.self.progress.place (drop used piece) first.can c.in-Ok-settle.ensures.place in
-    let goes = ends can.bytes [] can.pieces (known_more can.bytes piece [] can.pieces old.splitter can.stands) in
+    let goes = ends can.bytes [] can.pieces (known_more can.bytes piece [] can.pieces old.splitter can.present) in
     let counts = c.take_whole.ensures.count in
     let second = used_beside piece used old new c.settle.new.self first c.in-Ok-settle.ensures.beside c.in-Ok-settle.ensures.can place.0 place.1 in (
       second,
@@ -274,7 +274,7 @@ returns-in-Ok-settle-clause-goes g c start bytes next fed =
     let span : ℕ × ℕ = (c.in-Some-whole.start, c.in-Some-whole.field-0-1) in
     let mid : Intake = record { splitter = c.take_element.new.splitter; kept = c.make_room.new.self; progress = old.progress; pending = old.pending } in
     let ends : EndsOne piece used span old mid =
-    λ bytes next pieces stands. subst (λ (w : Option (ℕ × ℕ)). TakesUpTo bytes piece next pieces old.splitter used w mid.splitter) c.in-Some-whole.is (c.in-Ok.ensures.takes bytes next pieces stands) in
+    λ bytes next pieces present. subst (λ (w : Option (ℕ × ℕ)). TakesUpTo bytes piece next pieces old.splitter used w mid.splitter) c.in-Some-whole.is (c.in-Ok.ensures.takes bytes next pieces present) in
     let new = c.take_whole.new.self in
     let is : IsTaken piece used old mid new =
     record {
@@ -309,7 +309,7 @@ returns-in-Err-settle-clause-refused g c =
     let span : ℕ × ℕ = (c.in-Some-whole.start, c.in-Some-whole.field-0-1) in
     let mid : Intake = record { splitter = c.take_element.new.splitter; kept = c.make_room.new.self; progress = old.progress; pending = old.pending } in
     let ends : EndsOne piece used span old mid =
-    λ bytes next pieces stands. subst (λ (w : Option (ℕ × ℕ)). TakesUpTo bytes piece next pieces old.splitter used w mid.splitter) c.in-Some-whole.is (c.in-Ok.ensures.takes bytes next pieces stands) in
+    λ bytes next pieces present. subst (λ (w : Option (ℕ × ℕ)). TakesUpTo bytes piece next pieces old.splitter used w mid.splitter) c.in-Some-whole.is (c.in-Ok.ensures.takes bytes next pieces present) in
     let new = c.take_whole.new.self in
     let is : IsTaken piece used old mid new =
     record {
@@ -339,7 +339,7 @@ returns-in-Err-settle-clause-waits g c start bytes next fed =
     let span : ℕ × ℕ = (c.in-Some-whole.start, c.in-Some-whole.field-0-1) in
     let mid : Intake = record { splitter = c.take_element.new.splitter; kept = c.make_room.new.self; progress = old.progress; pending = old.pending } in
     let ends : EndsOne piece used span old mid =
-    λ bytes next pieces stands. subst (λ (w : Option (ℕ × ℕ)). TakesUpTo bytes piece next pieces old.splitter used w mid.splitter) c.in-Some-whole.is (c.in-Ok.ensures.takes bytes next pieces stands) in
+    λ bytes next pieces present. subst (λ (w : Option (ℕ × ℕ)). TakesUpTo bytes piece next pieces old.splitter used w mid.splitter) c.in-Some-whole.is (c.in-Ok.ensures.takes bytes next pieces present) in
     let new = c.take_whole.new.self in
     let is : IsTaken piece used old mid new =
     record {
@@ -373,7 +373,7 @@ returns-in-Err-settle-clause-fault g c start bytes next fed claims =
     let span : ℕ × ℕ = (c.in-Some-whole.start, c.in-Some-whole.field-0-1) in
     let mid : Intake = record { splitter = c.take_element.new.splitter; kept = c.make_room.new.self; progress = old.progress; pending = old.pending } in
     let ends : EndsOne piece used span old mid =
-    λ bytes next pieces stands. subst (λ (w : Option (ℕ × ℕ)). TakesUpTo bytes piece next pieces old.splitter used w mid.splitter) c.in-Some-whole.is (c.in-Ok.ensures.takes bytes next pieces stands) in
+    λ bytes next pieces present. subst (λ (w : Option (ℕ × ℕ)). TakesUpTo bytes piece next pieces old.splitter used w mid.splitter) c.in-Some-whole.is (c.in-Ok.ensures.takes bytes next pieces present) in
     let new = c.take_whole.new.self in
     let is : IsTaken piece used old mid new =
     record {

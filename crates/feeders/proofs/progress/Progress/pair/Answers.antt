@@ -15,4 +15,4 @@ returns-else-wants_memory-clause-paired c plan start items pass at =
     let other : c.take-step.result ≢ Err pairs.Memory = λ is. let yes = c.wants_memory.ensures.1 is in let no = c.if-wants_memory.false in cc in
     subst (λ i. IsPaired plan start items i c.with_code.result (record c.args.self.now { pairing = c.take-step.new.self }) pass) (sym c.in-Ok.is)
     (subst (λ (s : StepResult). IsPaired plan start items (Ok c.in-Ok.item) s (record c.args.self.now { pairing = c.take-step.new.self }) pass) (sym c.with_code.ensures)
-    (paired plan c.args.self.now c.take-step.new.self c.in-Ok.item c.take-step.result other c.take-step.ensures.step c.take-step.ensures.stands c.take-step.ensures.feeder start items pass at))
+    (paired plan c.args.self.now c.take-step.new.self c.in-Ok.item c.take-step.result other c.take-step.ensures.step c.take-step.ensures.present c.take-step.ensures.feeder start items pass at))

@@ -18,7 +18,7 @@ unreachable-requires c =
     let inside = c.self.inside in
     let none = none_in_slot inside.slots.items (slot_of_id inside.places) (holder_at inside.moments) c.self.invariant.0 c.args.op.now.id
     (λ i e. rw (← c.as_slice.ensures.value) (c.in_default.ensures.none refl i e)) in
-    let e = rw (← c.self.view_is, none) at c.requires.stands in
+    let e = rw (← c.self.view_is, none) at c.requires.present in
     cc
 
 pub move_moments-requires-clause-id : goal.move_moments-requires-clause-id

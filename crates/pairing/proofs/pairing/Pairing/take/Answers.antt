@@ -5,8 +5,8 @@ use Rattle.pairing.specs.Registers.{answer_beside}
 use Rattle.pairing.proofs.Standing.{after_refused, after_taken, rows_rise}
 use Rattle.pairing.proofs.pairing.Pairing.take.Goals as goal
 
-pub returns-then-is_err-clause-stands : goal.returns-then-is_err-clause-stands
-returns-then-is_err-clause-stands c fine items after =
+pub returns-then-is_err-clause-present : goal.returns-then-is_err-clause-present
+returns-then-is_err-clause-present c fine items after =
     let known_is = sym c.self.view_is in
     let err = sym c.is_err.ensures.value ∙ c.if-is_err.true in
     after_refused _ items c.args.event c.args.item
@@ -19,8 +19,8 @@ invariant_of-self-2 c =
     let rises = subst (λ (known : PairingModel). ForSome known.last (λ last. last < c.args.event)) (sym c.self.view_is) c.requires.rises in
     rw c.in_ok-remember.ensures.registers (rows_rise c.self.inside.last _ c.args.event c.args.item rises c.self.invariant)
 
-pub returns-clause-stands : goal.returns-clause-stands
-returns-clause-stands c fine items after =
+pub returns-clause-present : goal.returns-clause-present
+returns-clause-present c fine items after =
     let known_is = sym c.self.view_is in
     let ok = sym c.is_err.ensures.value ∙ c.if-is_err.false in
     after_taken _ items c.args.event c.args.item

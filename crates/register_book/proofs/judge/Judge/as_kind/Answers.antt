@@ -19,9 +19,9 @@ admit-requires-clause-accepted c =
     let before = held_by c.args.self.now in
     let claim : ClaimModel = record before.claim { kind = c.args.kind } in
     let slots = c.slots-slot-items.result.now in
-    let stands : ops_in_slots slots ≡ before.ops = search rules in
+    let present : ops_in_slots slots ≡ before.ops = search rules in
     let at : slot_at slots c.loop-slot.slot-index ≡ Some c.in-Some.op = search rules in
-    let apart = subst (StandApart claim) (sym stands) (claimed_apart c.args.kind before.claim before.ops c.requires.apart c.requires.accepted) in
+    let apart = subst (StandApart claim) (sym present) (claimed_apart c.args.kind before.claim before.ops c.requires.apart c.requires.accepted) in
     accepted_next claim slots c.loop-slot.slot-index c.in-Some.op (held_by c.loop-slot.judge) apart at c.loop-slot.invariant.held
 
 pub admit-requires-clause-none_prepared : goal.admit-requires-clause-none_prepared
@@ -33,7 +33,7 @@ loop-slot-preserved c =
     let slots = c.slots-slot-items.result.now in
     let k = c.loop-slot.slot-index in
     let held = c.loop-slot.invariant in
-    let stands : ops_in_slots slots ≡ (held_by c.args.self.now).ops = search rules in
+    let present : ops_in_slots slots ≡ (held_by c.args.self.now).ops = search rules in
     elim c.match-slot.branch [
       | in-Some+in_ok-admit w ↦
           let at : slot_at slots k ≡ Some w.in-Some.op = search rules in
@@ -47,7 +47,7 @@ loop-slot-preserved c =
             kind = subst IsOfItsKind (sym w.judge-is) kind;
             none_prepared = subst HasNonePrepared (sym w.judge-is) left;
             steps = subst (λ (judge : Judge). (held_by judge).steps ≤ length (held_by judge).ops * most_steps (held_by c.args.self.now).ops) (sym w.judge-is)
-                (steps_on claim slots k (held_by c.args.self.now).ops before after w.in-Some.op held.held stands e held.steps w.admit.ensures.steps);
+                (steps_on claim slots k (held_by c.args.self.now).ops before after w.in-Some.op held.held present e held.steps w.admit.ensures.steps);
           }
       | in_default w ↦
           let at : slot_at slots k ≡ None = search rules in
@@ -65,9 +65,9 @@ returns-clause-held c =
     let claim : ClaimModel = record before.claim { kind = c.args.kind } in
     let slots = c.slots-slot-items.result.now in
     let k = c.loop-slot.slot-index in
-    let stands : ops_in_slots slots ≡ before.ops = search rules in
+    let present : ops_in_slots slots ≡ before.ops = search rules in
     let le : length slots ≤ k = search rules in
-    held_all claim slots k (held_by c.loop-slot.judge) le c.loop-slot.invariant.held ∙ ap (λ (ops : List Op). record { claim = claim; ops = ops }) stands
+    held_all claim slots k (held_by c.loop-slot.judge) le c.loop-slot.invariant.held ∙ ap (λ (ops : List Op). record { claim = claim; ops = ops }) present
 
 pub returns-clause-kind : goal.returns-clause-kind
 returns-clause-kind c = c.loop-slot.invariant.kind

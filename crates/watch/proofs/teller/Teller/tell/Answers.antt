@@ -1,5 +1,5 @@
 use Rattle.std.proofs.Common.{◌≡◌, List, [], ◌∷◌, false, ap, refl, subst, sym, ◌∙◌}
-use Rattle.watch.specs.declared.settling.Progress.{Progress}
+use Rattle.watch.specs.declared.settling.FeederProgress.{FeederProgress}
 use Rattle.watch.specs.declared.teller.TellerState.TheVariants.{Going}
 use Rattle.watch.specs.Due.{has_due, held_notices, most_of}
 use Rattle.watch.specs.Teller.{HasTold}
@@ -26,7 +26,7 @@ invariant_of-self g c =
             told_due_by g.B.Beginning.terms inside.terms g.B.Beginning.registers inside.tower.now.registers g.B.Beginning.before (g.W.Write.contents c.take-state.new.out) (g.W.Write.contents w.write_due-self-inside.new.out)
                 c.take-state.new.told.items c.take-state.new.held.items w.write_due-self-inside.new.held.items c.take-state.result w.write_due-self-inside.result
                 is.2 is.1 (c.is_going.ensures.0 w.if-is_going.true) took w.write_due-self-inside.ensures.written,
-            λ on. subst (λ (l : List Progress). has_due w.write_due-self-inside.new.held.items l ≡ false) w.as_slice-then-is_going.ensures.value (w.write_due-self-inside.ensures.none on),
+            λ on. subst (λ (l : List FeederProgress). has_due w.write_due-self-inside.new.held.items l ≡ false) w.as_slice-then-is_going.ensures.value (w.write_due-self-inside.ensures.none on),
             λ on one alone.
                 due_in_turn (most_of inside.terms.settle one) w.as_slice-then-is_going.result.now c.take-state.new.held.items w.write_due-self-inside.new.held.items w.write_due-self-inside.ensures.due
                 (held_in_turn inside.terms.settle c.as_slice.result.now one c.args.notice inside.held.items c.take-state.new.held.items (c.as_slice.ensures.value ∙ alone) (is.5 going one alone)

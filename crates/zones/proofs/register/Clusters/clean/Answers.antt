@@ -9,8 +9,8 @@ use Rattle.zones.proofs.Start.{initial_not_written}
 use Rattle.zones.proofs.Front.{clean_with, clean_without, front_before, front_in_order}
 use Rattle.zones.proofs.register.Clusters.clean.Goals as goal
 
-pub clean_behind-requires-clause-edges : goal.clean_behind-requires-clause-edges
-clean_behind-requires-clause-edges c =
+pub clean_after-requires-clause-edges : goal.clean_after-requires-clause-edges
+clean_after-requires-clause-edges c =
     let apart = c.self.invariant.apart in
     let claim = terms_of c.self.inside.claim in
     let ops = c.self.inside.table.ops in
@@ -19,8 +19,8 @@ clean_behind-requires-clause-edges c =
     front_in_order (terms_of c.self.inside.claim) c.self.inside.table.ops c.self.invariant.apart c.self.inside.zones.zones c.iter.ensures.order c.self.invariant.zoned
     c.in-Some.initial is c.initial_zone.result zone
 
-pub clean_behind-requires-clause-before : goal.clean_behind-requires-clause-before
-clean_behind-requires-clause-before c =
+pub clean_after-requires-clause-before : goal.clean_after-requires-clause-before
+clean_after-requires-clause-before c =
     let apart = c.self.invariant.apart in
     let claim = terms_of c.self.inside.claim in
     let ops = c.self.inside.table.ops in
@@ -36,9 +36,9 @@ returns-in-Some c =
     let ops = c.self.inside.table.ops in
     let is : initial_of claim ops ≡ Some c.in-Some.initial = sym (subst (λ (x : ClustersModel). c.initial.result ≡ initial_of x.claim x.ops) (sym c.self.view_is) c.initial.ensures) ∙ c.in-Some.is in
     let zone : c.initial_zone.result ≡ zone_of c.in-Some.initial ops c.in-Some.initial = c.initial_zone.ensures ops c.self.invariant.records_of (initial_not_written claim ops (apart.kept.values apart.atomic) c.in-Some.initial is) in
-    subst (λ (x : ClustersModel). IsTrue c.clean_behind.result ↔ IsClean (zones_from (initial_of x.claim x.ops) x.ops)) c.self.view_is
+    subst (λ (x : ClustersModel). IsTrue c.clean_after.result ↔ IsClean (zones_from (initial_of x.claim x.ops) x.ops)) c.self.view_is
     (clean_with (terms_of c.self.inside.claim) c.self.inside.table.ops c.self.invariant.apart c.self.inside.zones.zones c.iter.ensures.order c.self.invariant.zoned
-    c.in-Some.initial is c.initial_zone.result zone (IsTrue c.clean_behind.result) c.clean_behind.ensures)
+    c.in-Some.initial is c.initial_zone.result zone (IsTrue c.clean_after.result) c.clean_after.ensures)
 
 pub returns-in-None : goal.returns-in-None
 returns-in-None c =

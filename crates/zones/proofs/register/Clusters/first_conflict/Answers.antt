@@ -10,8 +10,8 @@ use Rattle.zones.specs.Crossing.{HasFirstConflictFrom}
 use Rattle.zones.proofs.Front.{clean_with, clean_without, conflict_with, conflict_without, front_before, front_in_order}
 use Rattle.zones.proofs.register.Clusters.first_conflict.Goals as goal
 
-pub first_conflict_behind-requires-clause-edges : goal.first_conflict_behind-requires-clause-edges
-first_conflict_behind-requires-clause-edges c =
+pub first_conflict_after-requires-clause-edges : goal.first_conflict_after-requires-clause-edges
+first_conflict_after-requires-clause-edges c =
     let apart = c.self.invariant.apart in
     let claim = terms_of c.self.inside.claim in
     let ops = c.self.inside.table.ops in
@@ -20,8 +20,8 @@ first_conflict_behind-requires-clause-edges c =
     front_in_order (terms_of c.self.inside.claim) c.self.inside.table.ops c.self.invariant.apart c.self.inside.zones.zones c.iter.ensures.order c.self.invariant.zoned
     c.in-Some.initial is c.initial_zone.result zone
 
-pub first_conflict_behind-requires-clause-before : goal.first_conflict_behind-requires-clause-before
-first_conflict_behind-requires-clause-before c =
+pub first_conflict_after-requires-clause-before : goal.first_conflict_after-requires-clause-before
+first_conflict_after-requires-clause-before c =
     let apart = c.self.invariant.apart in
     let claim = terms_of c.self.inside.claim in
     let ops = c.self.inside.table.ops in
@@ -37,9 +37,9 @@ returns-in-Some-clause-first c =
     let ops = c.self.inside.table.ops in
     let is : initial_of claim ops ≡ Some c.in-Some.initial = sym (subst (λ (x : ClustersModel). c.initial.result ≡ initial_of x.claim x.ops) (sym c.self.view_is) c.initial.ensures) ∙ c.in-Some.is in
     let zone : c.initial_zone.result ≡ zone_of c.in-Some.initial ops c.in-Some.initial = c.initial_zone.ensures ops c.self.invariant.records_of (initial_not_written claim ops (apart.kept.values apart.atomic) c.in-Some.initial is) in
-    subst (λ (x : ClustersModel). IfSome c.first_conflict_behind.result (λ pair. HasFirstConflictFrom (initial_of x.claim x.ops) x.ops pair.0 pair.1)) c.self.view_is
+    subst (λ (x : ClustersModel). IfSome c.first_conflict_after.result (λ pair. HasFirstConflictFrom (initial_of x.claim x.ops) x.ops pair.0 pair.1)) c.self.view_is
     (conflict_with (terms_of c.self.inside.claim) c.self.inside.table.ops c.self.invariant.apart c.self.inside.zones.zones c.iter.ensures.order c.self.invariant.zoned
-    c.in-Some.initial is c.initial_zone.result zone c.first_conflict_behind.result c.first_conflict_behind.ensures.first)
+    c.in-Some.initial is c.initial_zone.result zone c.first_conflict_after.result c.first_conflict_after.ensures.first)
 
 pub returns-in-Some-clause-none : goal.returns-in-Some-clause-none
 returns-in-Some-clause-none c =
@@ -48,9 +48,9 @@ returns-in-Some-clause-none c =
     let ops = c.self.inside.table.ops in
     let is : initial_of claim ops ≡ Some c.in-Some.initial = sym (subst (λ (x : ClustersModel). c.initial.result ≡ initial_of x.claim x.ops) (sym c.self.view_is) c.initial.ensures) ∙ c.in-Some.is in
     let zone : c.initial_zone.result ≡ zone_of c.in-Some.initial ops c.in-Some.initial = c.initial_zone.ensures ops c.self.invariant.records_of (initial_not_written claim ops (apart.kept.values apart.atomic) c.in-Some.initial is) in
-    subst (λ (x : ClustersModel). IsNone c.first_conflict_behind.result ↔ IsClean (zones_from (initial_of x.claim x.ops) x.ops)) c.self.view_is
+    subst (λ (x : ClustersModel). IsNone c.first_conflict_after.result ↔ IsClean (zones_from (initial_of x.claim x.ops) x.ops)) c.self.view_is
     (clean_with (terms_of c.self.inside.claim) c.self.inside.table.ops c.self.invariant.apart c.self.inside.zones.zones c.iter.ensures.order c.self.invariant.zoned
-    c.in-Some.initial is c.initial_zone.result zone (IsNone c.first_conflict_behind.result) c.first_conflict_behind.ensures.none)
+    c.in-Some.initial is c.initial_zone.result zone (IsNone c.first_conflict_after.result) c.first_conflict_after.ensures.none)
 
 pub returns-in-None-clause-first : goal.returns-in-None-clause-first
 returns-in-None-clause-first c =

@@ -1,5 +1,0 @@
-use Rattle.intervals.proofs.Appended.{accepted_again}
-use Rattle.intervals.proofs.laws.what_stands_apart_is_accepted.Goals as goal
-
-pub returns : goal.returns
-returns c = λ claim front rest op apart. accepted_again claim front op rest apart

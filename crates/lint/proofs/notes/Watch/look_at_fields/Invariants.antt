@@ -1,5 +1,0 @@
-use Rattle.edn_reader.specs.Lent.{bytes_left}
-use Rattle.lint.proofs.notes.Watch.look_at_fields.Given as goal
-
-abbrev pub decreases-loop-key : goal.decreases-loop-key
-decreases-loop-key l = bytes_left l.left

@@ -1,5 +1,0 @@
-use Rattle.shards.proofs.Legal.{left_as_edited}
-use Rattle.shards.proofs.laws.what_stands_is_after_all_edits.Goals as goal
-
-pub returns : goal.returns
-returns c = left_as_edited

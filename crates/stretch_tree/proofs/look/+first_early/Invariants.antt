@@ -1,5 +1,0 @@
-use Rattle.std.proofs.Common.{length}
-use Rattle.stretch_tree.proofs.look.+first_early.Given as goal
-
-abbrev pub decreases-first_early : goal.decreases-first_early
-decreases-first_early l = length l.part.tree.now.items

@@ -1,5 +1,0 @@
-use Rattle.std.proofs.Common.{length}
-use Rattle.stretch_tree.proofs.look.+first_writeless.Given as goal
-
-abbrev pub decreases-first_writeless : goal.decreases-first_writeless
-decreases-first_writeless l = length l.part.tree.now.items

@@ -1,5 +1,0 @@
--- words of the public clauses
-pub mod Order
--- words of private clauses
-pub mod Summary
-pub mod Look
