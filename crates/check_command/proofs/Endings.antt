@@ -3,7 +3,6 @@ use Rattle.std.proofs.Common.{◌≡◌, ℕ, false, List, map, not, Option, Som
 use Rattle.std.specs.Prelude.{IfSome, is_some}
 use Rattle.std.specs.Io.KnownBytes.{Appends}
 use Rattle.intervals.specs.declared.operation.RegId.{RegId}
-use Rattle.jepsen_form.specs.declared.item.MomentField.{MomentField}
 use Rattle.tower_file.specs.Contents.{TowerModel}
 use Rattle.tower_file.specs.Tower.{IsTowerOf}
 use Rattle.shards.specs.Closing.{ClosedShard}
@@ -16,24 +15,22 @@ use Rattle.check_command.specs.Audit.{IsAudit}
 use Rattle.command_parts.specs.Status.{status_of}
 use Rattle.check_command.specs.Verdict.{IsAudited, verdict_line}
 use Rattle.check_command.specs.Checked.{IsChecked, IsPrinted}
-use Rattle.command_parts.specs.Job.{chosen_field}
 use Rattle.command_parts.specs.Tower.{IsNamed}
 use Rattle.command_parts.specs.Status.{IsStatus}
 use Rattle.check_command.specs.Kept.{AreKeptIn}
 
 -- `AreTheir known` says that the files hold these texts
-pub checked : (held : Option (List ℕ)) (asked : AskedCheck) (tower : TowerModel) (order : Option RegId) (closed : List ClosedShard) (logs : List Log) (chosen : MomentField) (lefts : List (Option (List ℕ))) (AreTheir : List (List ℕ) → Type 0) (kept : List (List ℕ)) (status : ℕ) (old new : Option (List ℕ))
+pub checked : (held : Option (List ℕ)) (asked : AskedCheck) (tower : TowerModel) (order : Option RegId) (closed : List ClosedShard) (logs : List Log) (lefts : List (Option (List ℕ))) (AreTheir : List (List ℕ) → Type 0) (kept : List (List ℕ)) (status : ℕ) (old new : Option (List ℕ))
     → IfSome held (λ file. IsTowerOf file tower)
     → IsNamed tower asked.order order
     → ((known : List (List ℕ)) → AreTheir known → lefts ≡ map (λ text. Some text) known)
-    → chosen ≡ chosen_field asked.moments
-    → ((read : List (List ℕ)) × AreReadOf lefts logs read × IsRun tower chosen asked.shards read closed logs)
+    → ((read : List (List ℕ)) × AreReadOf lefts logs read × IsRun tower asked.moments asked.shards read closed logs)
     → AreKeptIn asked.form lefts logs kept
     → ((text : List ℕ) × IsPrinted asked status tower closed logs order kept text × Appends old new text)
     → IsStatus tower closed logs asked.least asked.least_each status
     → IfSome held (λ file. (traces : List (List ℕ)) → AreTheir traces → IsChecked asked file traces status old new)
-checked None asked tower order closed logs chosen lefts AreTheir kept status old new says named opened field run are_kept report is = search rules
-checked (Some file) asked tower order closed logs chosen lefts AreTheir kept status old new says named opened field run are_kept report is =
+checked None asked tower order closed logs lefts AreTheir kept status old new says named opened run are_kept report is = search rules
+checked (Some file) asked tower order closed logs lefts AreTheir kept status old new says named opened run are_kept report is =
     λ traces are. record {
       tower = tower;
       says = says;
@@ -43,7 +40,7 @@ checked (Some file) asked tower order closed logs chosen lefts AreTheir kept sta
       logs = logs;
       read = run.0;
       are_read = subst (λ (l : List (Option (List ℕ))). AreReadOf l logs run.0) (opened traces are) run.1;
-      run = subst (λ (f : MomentField). IsRun tower f asked.shards run.0 closed logs) field run.2;
+      run = run.2;
       kept = kept;
       are_kept = subst (λ (l : List (Option (List ℕ))). AreKeptIn asked.form l logs kept) (opened traces are) are_kept;
       text = report.0;

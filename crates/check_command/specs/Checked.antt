@@ -17,18 +17,17 @@ use Rattle.records.specs.declared.line.Notation.TheVariants as notations
 use Rattle.records.specs.Run.{IsTextOfRecords, RunNames}
 use Rattle.words.specs.declared.check.ReportForm.{ReportForm}
 use Rattle.words.specs.declared.check.ReportForm.TheVariants.{Report, Summary, Json, Edn}
-use Rattle.words.specs.declared.check.MomentKey.{MomentKey}
-use Rattle.words.specs.declared.check.MomentKey.TheVariants.{Index, Time}
+use Rattle.jepsen_form.specs.declared.item.MomentField.{MomentField}
+use Rattle.jepsen_form.specs.declared.item.MomentField.TheVariants.{Index, Time}
 use Rattle.words.specs.Words.{AskedCheck}
 use Rattle.check_command.specs.Kept.{AreKeptIn}
 use Rattle.command_parts.specs.declared.fault.CommandFault.{CommandFault}
 use Rattle.command_parts.specs.declared.fault.CommandFault.TheVariants.{Memory, Unwritable}
-use Rattle.command_parts.specs.Job.{chosen_field}
 use Rattle.command_parts.specs.Status.{IsStatus}
 use Rattle.command_parts.specs.Tower.{IsNamed}
 
 -- the word of the field that has the moments
-abbrev pub moment_word : MomentKey → List ℕ
+abbrev pub moment_word : MomentField → List ℕ
 moment_word Index = codes "index"
 moment_word Time = codes "time"
 
@@ -70,7 +69,7 @@ pub record IsChecked (asked : AskedCheck) (file : List ℕ) (traces : List (List
   pub logs : List Log
   pub read : List (List ℕ)
   pub are_read : AreReadOf (map (λ trace. Some trace) traces) logs read
-  pub run : IsRun tower (chosen_field asked.moments) asked.shards read closed logs
+  pub run : IsRun tower asked.moments asked.shards read closed logs
   pub kept : List (List ℕ)
   pub are_kept : AreKeptIn asked.form (map (λ trace. Some trace) traces) logs kept
   pub text : List ℕ

@@ -9,11 +9,9 @@ ghost use Rattle.check_command.specs.Checked.{ArePrinted, IsChecked, IsPrintedIn
 ghost use Rattle.command_parts.specs.Files.{AreHeld};
 
 use crate::judging::{Judged, judge};
-use command_parts::{
-    CommandFault, Files, Job, TRACE_LIMIT, named, open_files, read_tower, status_after,
-};
-use feeders::Pages;
+use command_parts::{CommandFault, Files, Job, OpenedRun, open_run, status_after};
 use intervals::RegId;
+use jepsen_form::MomentField;
 use records::{Form, Notation, write_records};
 use report::laws::a_run_is_of_its_tower;
 use report::{ReportFault, report, summary};
@@ -23,7 +21,7 @@ use std::mem::forget;
 use std::sync::Wait;
 use std::thread::Threads;
 use tower_file::Tower;
-use words::{Check, MomentKey, ReportForm};
+use words::{Check, ReportForm};
 
 /// Judges the registers of a tower by traces while these are read, and writes the report, also where a trace or its
 /// reading breaks off. The faults come in this order: too many traces, the tower file, the register whose order is
@@ -41,16 +39,13 @@ pub fn check<'a, A: AllocGlobal + Threads + Wait + Sync, F: Files, W: Write>(
         → IsChecked (asked_check asked.entry.now) file traces status (W.contents out.old) (W.contents out.new))) }
     ensures quiet { IfErr result (λ fault. fault ≢ CommandFault.Unwritable → out.new ≡ out.old) }
 {
-    if asked.traces.len() > TRACE_LIMIT {
-        return Err(CommandFault::TooManyTraces);
-    }
     let alloc = rt.alloc();
-    let tower = read_tower(alloc, files, asked.tower)?;
-    let order = named(&tower, asked.order)?;
-    let readers = open_files(alloc, files, &asked.traces)?;
-    let Ok(pages) = Pages::new(alloc) else {
-        return Err(CommandFault::Memory);
-    };
+    let OpenedRun {
+        tower,
+        register,
+        readers,
+        pages,
+    } = open_run(alloc, files, asked.tower, asked.order, &asked.traces)?;
     a_run_is_of_its_tower();
     let job = Job {
         rt,
@@ -66,7 +61,13 @@ pub fn check<'a, A: AllocGlobal + Threads + Wait + Sync, F: Files, W: Write>(
     let Ok(status) = status_after(alloc, asked.least, asked.least_each, &tower, &judged.run) else {
         return Err(CommandFault::Memory);
     };
-    match print(rt, asked.form, asked, status, &tower, &judged, order, out) {
+    let outcome = Outcome {
+        tower: &tower,
+        judged: &judged,
+        status,
+        order: register,
+    };
+    match print(rt, asked.form, asked, &outcome, out) {
         Ok(()) => {
             // The command is over: to free the run, node by node, would cost a tenth of its time.
             forget(judged);
@@ -88,86 +89,62 @@ fn unreported<'a>(fault: ReportFault) -> CommandFault<'a>
     }
 }
 
-/// Writes what is asked for of a run with this status: the report, the summary or the records.
-fn print<'x, A: AllocGlobal + Threads + Wait + Sync, W: Write>(
+/// What is printed: a run over the registers of a tower, the status, and the register whose order is asked for.
+#[derive(Clone, Copy)]
+struct Outcome<'f, 'x> {
+    tower: &'x Tower,
+    judged: &'f Judged<'x>,
+    status: u8,
+    order: Option<RegId>,
+}
+
+/// Writes what is asked for of a run: the report, the summary or the records.
+fn print<A: AllocGlobal + Threads + Wait + Sync, W: Write>(
     rt: &A,
     form: ReportForm,
     asked: &Check<'_>,
-    status: u8,
-    tower: &'x Tower,
-    judged: &Judged<'x>,
-    order: Option<RegId>,
+    outcome: &Outcome,
     out: &mut W,
 ) -> Result<(), ReportFault>
-    requires of_tower { IsOfTower tower.now judged.now.run.closed }
-    requires order { IfSome order (λ id. id.0 < length tower.now.registers) }
-    ensures printed { OnOk result ((text : List ℕ) × IsPrintedIn form (asked_check asked.now) status tower.now judged.now.run.closed judged.now.run.logs.items order (map (λ text. text.items) judged.now.texts.items) text × Appends (W.contents out.old) (W.contents out.new) text) }
+    requires of_tower { IsOfTower outcome.now.tower.now outcome.now.judged.now.run.closed }
+    requires order { IfSome outcome.now.order (λ id. id.0 < length outcome.now.tower.now.registers) }
+    ensures printed { OnOk result ((text : List ℕ) × IsPrintedIn form (asked_check asked.now) outcome.now.status outcome.now.tower.now outcome.now.judged.now.run.closed outcome.now.judged.now.run.logs.items outcome.now.order (map (λ text. text.items) outcome.now.judged.now.texts.items) text × Appends (W.contents out.old) (W.contents out.new) text) }
     ensures memory { result ≡ Err ReportFault.Memory → out.new ≡ out.old }
 {
     let alloc = rt.alloc();
+    let run = &outcome.judged.run;
     match form {
-        ReportForm::Report => report(rt, alloc, tower, &judged.run, order, out),
-        ReportForm::Summary => summary(alloc, tower, &judged.run, out),
-        ReportForm::Json => {
-            print_records(
-                alloc,
-                Notation::Json,
-                asked,
-                status,
-                tower,
-                judged,
-                order,
-                out,
-            )
-        }
-        ReportForm::Edn => {
-            print_records(
-                alloc,
-                Notation::Edn,
-                asked,
-                status,
-                tower,
-                judged,
-                order,
-                out,
-            )
-        }
+        ReportForm::Report => report(rt, alloc, outcome.tower, run, outcome.order, out),
+        ReportForm::Summary => summary(alloc, outcome.tower, run, out),
+        ReportForm::Json => print_records(alloc, Notation::Json, asked, outcome, out),
+        ReportForm::Edn => print_records(alloc, Notation::Edn, asked, outcome, out),
     }
 }
 
-/// Writes the records of a run with this status.
-fn print_records<'x, W: Write>(
+/// Writes the records of a run.
+fn print_records<W: Write>(
     alloc: Global,
     notation: Notation,
     asked: &Check<'_>,
-    status: u8,
-    tower: &'x Tower,
-    judged: &Judged<'x>,
-    order: Option<RegId>,
+    outcome: &Outcome,
     out: &mut W,
 ) -> Result<(), ReportFault>
-    requires of_tower { IsOfTower tower.now judged.now.run.closed }
-    requires order { IfSome order (λ id. id.0 < length tower.now.registers) }
-    ensures printed { OnOk result ((text : List ℕ) × ArePrinted notation (asked_check asked.now) status tower.now judged.now.run.closed judged.now.run.logs.items order (map (λ text. text.items) judged.now.texts.items) text × Appends (W.contents out.old) (W.contents out.new) text) }
+    requires of_tower { IsOfTower outcome.now.tower.now outcome.now.judged.now.run.closed }
+    requires order { IfSome outcome.now.order (λ id. id.0 < length outcome.now.tower.now.registers) }
+    ensures printed { OnOk result ((text : List ℕ) × ArePrinted notation (asked_check asked.now) outcome.now.status outcome.now.tower.now outcome.now.judged.now.run.closed outcome.now.judged.now.run.logs.items outcome.now.order (map (λ text. text.items) outcome.now.judged.now.texts.items) text × Appends (W.contents out.old) (W.contents out.new) text) }
     ensures memory { result ≡ Err ReportFault.Memory → out.new ≡ out.old }
 {
-    let form = form_of(asked, notation);
-    write_records(
-        alloc,
-        &form,
-        status,
-        tower,
-        &judged.run,
-        &judged.texts,
-        order,
-        out,
-    )
+    let form = form_of(asked, notation, outcome);
+    let judged = outcome.judged;
+    write_records(alloc, &form, outcome.tower, &judged.run, &judged.texts, out)
 }
 
-fn form_of<'b>(asked: &'b Check<'_>, notation: Notation) -> Form<'b>
+fn form_of<'b>(asked: &'b Check<'_>, notation: Notation, outcome: &Outcome) -> Form<'b>
     ensures names { names_of result ≡ record_names (asked_check asked.now) }
     ensures notation { result.notation ≡ notation }
     ensures only { result.only_failing ≡ (asked_check asked.now).only_failing }
+    ensures order { result.order ≡ outcome.now.order }
+    ensures status { result.status ≡ outcome.now.status }
 {
     Form {
         notation,
@@ -175,14 +152,16 @@ fn form_of<'b>(asked: &'b Check<'_>, notation: Notation) -> Form<'b>
         tower: asked.tower,
         traces: &asked.traces,
         moments: moment_word(asked.moments),
+        order: outcome.order,
+        status: outcome.status,
     }
 }
 
-fn moment_word(moments: MomentKey) -> &'static str
+fn moment_word(moments: MomentField) -> &'static str
     ensures { result.now ≡ moment_word moments }
 {
     match moments {
-        MomentKey::Index => "index",
-        MomentKey::Time => "time",
+        MomentField::Index => "index",
+        MomentField::Time => "time",
     }
 }

@@ -13,6 +13,7 @@ use command_parts::{CommandFault, Job, is_refused, status_of, the_tower, write_t
 use feeders::Pages;
 use intervals::laws::texts_decide_nothing;
 use intervals::{Kind, RegId};
+use jepsen_form::MomentField;
 use logs::{Broken, Run};
 use phrases::push_register;
 use shards::laws::what_is_present_after_all_edits;
@@ -22,7 +23,6 @@ use std::mem::forget;
 use std::sync::Wait;
 use std::thread::Threads;
 use std::unreachable;
-use words::MomentKey;
 
 /// What is found of the one register: the kind that it claims to be, whether it holds, how many operations stand,
 /// whether an element was refused, and where the trace broke.
@@ -80,7 +80,7 @@ fn audit_trace<'a, A: AllocGlobal + Threads + Wait + Sync, S: Read + Drop + Send
         rt,
         tower: &tower,
         pages: &pages,
-        moments: MomentKey::Index,
+        moments: MomentField::Index,
         shards: 1,
     };
     let run = match job.run(readers) {

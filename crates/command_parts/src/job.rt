@@ -1,9 +1,9 @@
 //! A run over readers, whose traces are fed to the registers of a tower.
 
 ghost use Rattle.std.specs.Prelude.{◌≡◌, ◌≤◌, IfOk, map, vec_len};
-ghost use Rattle.command_parts.specs.Job.{IsRunOver, chosen_field};
+ghost use Rattle.command_parts.specs.Job.{IsRunOver};
 
-use feeders::{Pages, RunFault, run_readers};
+use feeders::{Pages, RunFault, Setup, run_readers};
 use jepsen_form::MomentField;
 use logs::Run;
 use shards::NoGate;
@@ -11,7 +11,6 @@ use std::io::Read;
 use std::sync::Wait;
 use std::thread::Threads;
 use tower_file::Tower;
-use words::MomentKey;
 
 /// The most traces of one run.
 pub const TRACE_LIMIT: usize = 256;
@@ -22,7 +21,7 @@ pub struct Job<'j, 'x, A> {
     pub rt: &'j A,
     pub tower: &'x Tower,
     pub pages: &'x Pages,
-    pub moments: MomentKey,
+    pub moments: MomentField,
     /// From 1 to 64.
     pub shards: u32,
     ghost within: { (1 ≤ shards) × (shards ≤ 64) },
@@ -34,24 +33,13 @@ impl<'x, A: AllocGlobal + Threads + Wait + Sync> Job<'_, 'x, A> {
         requires readers { (1 ≤ vec_len readers) × (vec_len readers ≤ 256) }
         ensures run { IfOk result (λ run. IsRunOver self.now.tower.now self.now.moments self.now.shards (map S.remaining readers.items) run.closed run.logs.items) }
     {
-        run_readers(
-            self.rt,
-            self.rt.alloc(),
-            self.tower,
-            readers,
-            self.pages,
-            field_of(self.moments),
-            self.shards,
-            &NoGate,
-        )
-    }
-}
-
-pub fn field_of(moments: MomentKey) -> MomentField
-    ensures { result ≡ chosen_field moments }
-{
-    match moments {
-        MomentKey::Index => MomentField::Index,
-        MomentKey::Time => MomentField::Time,
+        let setup = Setup {
+            rt: self.rt,
+            alloc: self.rt.alloc(),
+            tower: self.tower,
+            field: self.moments,
+            shards: self.shards,
+        };
+        run_readers(setup, readers, self.pages, &NoGate)
     }
 }

@@ -1,9 +1,10 @@
 -- A chunk is taken up to the end of the next element, or else to its own end.
-use Rattle.std.proofs.Common.{◌≡◌, ℕ, ◌+◌, ◌-◌, ◌≤◌, ◌<◌, ◌^◌, List, [], ◌∷◌, ◌++◌, length, take, drop, Option, Some, None, Result, Err, refl, sym, ap, subst, ◌∙◌, arith, length-drop, length-append, vec_len}
+use Rattle.std.proofs.Common.{◌≡◌, ℕ, ◌+◌, ◌-◌, ◌≤◌, ◌<◌, ◌^◌, List, [], ◌∷◌, ◌++◌, length, take, drop, Option, Some, None, Result, Ok, Err, refl, sym, ap, subst, ◌∙◌, arith, length-drop, length-append, vec_len}
 use Rattle.std.specs.Prelude.{MatchOption}
 use Rattle.std.proofs.lemmas.List.{length-take-le}
 use Rattle.edn_reader.specs.Grammar.{ElementModel}
 use Rattle.edn_reader.specs.declared.fault.EdnFault.{EdnFault}
+use Rattle.edn_reader.specs.declared.splitter.Taken.{Taken}
 use Rattle.edn_reader.specs.Splitting.{IsLast, KeepsFault, SplitterModel, StandsAfter, TakesUpTo, WantsMemory, keep, TakesOn as SplitsOn}
 use Rattle.jepsen_form.specs.declared.fault.FormFault.{FormFault}
 use Rattle.jepsen_form.specs.declared.item.Item.{Item}
@@ -138,6 +139,17 @@ wants_memory fault old new piece none takes =
           (goes.0, subst (λ (w : Option ℕ). MatchOption w (KeepsFault bytes (piece ++ next) pieces fault new) (λ place. WantsMemory bytes piece next pieces place new)) at.1 goes.1),
     )
 
+-- how many bytes of a chunk were taken before memory was refused
+pub taken_before : (fault : EdnFault) (old : Intake) (new : SplitterModel) (piece : List ℕ) → broken_by fault ≡ None → SplitsOn piece old.splitter (Err fault) new → CanGoOn piece old
+    → (old.splitter.taken ≤ new.taken) × (new.taken ≤ old.splitter.taken + length piece)
+taken_before fault old new piece none takes can =
+    let goes = ((wants_memory fault old.splitter new piece none takes).1 can.bytes [] can.pieces (known_more can.bytes piece [] can.pieces old.splitter can.present)).1 in
+    let long = taken_is can.bytes piece can.pieces old.splitter can.present in (omega (arith, goes.0, goes.2, long), omega (arith, goes.1, goes.2, long))
+
+-- the bytes that are kept between two elements end where the splitter is
+pub kept_is : (old : Intake) (piece : List ℕ) → old.pending ≡ Nothing → CanGoOn piece old → old.kept.from + length old.kept.bytes.items ≡ old.splitter.taken
+kept_is old piece none can = (holds_none old.pending can.bytes old.kept none can.holds).long ∙ sym (taken_is can.bytes piece can.pieces old.splitter can.present)
+
 -- the text has a fault in a chunk
 pub keeps_fault : (fault : EdnFault) (broken : Broken) (old new : SplitterModel) (piece : List ℕ) → broken_by fault ≡ Some broken → SplitsOn piece old (Err fault) new
     → (bytes next : List ℕ) (pieces : List ElementModel) → StandsAfter bytes (piece ++ next) pieces old → KeepsFault bytes (piece ++ next) pieces fault new
@@ -161,6 +173,10 @@ fed_roomed setting bytes next old new pass none pending progress splitter from i
 abbrev pub EndsOne : List ℕ → ℕ → ℕ × ℕ → Intake → Intake → Type 0
 EndsOne piece used span old mid =
     (bytes next : List ℕ) (pieces : List ElementModel) → StandsAfter bytes (piece ++ next) pieces old.splitter → TakesUpTo bytes piece next pieces old.splitter used (Some span) mid.splitter
+
+pub ends_so : (piece : List ℕ) (taken : Taken) (span : ℕ × ℕ) (old mid : Intake) → taken.whole ≡ Some span → SplitsOn piece old.splitter (Ok taken) mid.splitter → EndsOne piece taken.used span old mid
+ends_so piece taken span old mid is takes bytes next pieces present =
+    subst (λ (w : Option (ℕ × ℕ)). TakesUpTo bytes piece next pieces old.splitter taken.used w mid.splitter) is (takes bytes next pieces present)
 
 front_is : (bytes piece : List ℕ) (used start : ℕ) (kept : TailBuffer) → AreLastBytes bytes kept → kept.from ≤ start
     → drop (start - kept.from) (kept.bytes.items ++ take used piece) ≡ drop start (bytes ++ take used piece)

@@ -55,6 +55,7 @@ pub enum FeedState {
 /// It tells its gate of changes and refusals only, and not of the break or the end of its trace.
 #[derive(Drop)]
 pub struct Feeder<'t> {
+    alloc: Global,
     field: MomentField,
     tower: &'t Tower,
     pages: &'t Pages,
@@ -92,6 +93,7 @@ impl<'t> Feeder<'t> {
         ensures fed { (plan : Plan) (start : Start) (pass : PassModel) → IsAtStart plan start pass → start.feeder ≡ feeder → IsFedUpTo plan start [] [] result pass }
     {
         Feeder {
+            alloc,
             field,
             tower,
             pages,
@@ -112,7 +114,6 @@ impl<'t> Feeder<'t> {
     pub fn feed<O: Opening, R: Wait, G: Watcher>(
         &mut self,
         rt: &R,
-        alloc: Global,
         auditor: &Auditor<'t, O>,
         gate: &G,
         pass: &mut Pass<'t>,
@@ -141,13 +142,13 @@ impl<'t> Feeder<'t> {
         }
         let site = Site {
             rt,
-            alloc,
+            alloc: self.alloc,
             auditor,
             gate,
             tower: self.tower,
             field: self.field,
         };
-        let page = self.paging.page_of(self.pages, rt, alloc, pass, piece);
+        let page = self.paging.page_of(self.pages, rt, self.alloc, pass, piece);
         match self.intake.take_piece(site, self.pages, pass, piece, page) {
             Ok(true) => {
                 self.state = FeedState::Open;
@@ -168,7 +169,6 @@ impl<'t> Feeder<'t> {
     pub fn end<O: Opening, R: Wait, G: Watcher>(
         &mut self,
         rt: &R,
-        alloc: Global,
         auditor: &Auditor<'t, O>,
         gate: &G,
         pass: &mut Pass<'t>,
@@ -195,7 +195,7 @@ impl<'t> Feeder<'t> {
         }
         let site = Site {
             rt,
-            alloc,
+            alloc: self.alloc,
             auditor,
             gate,
             tower: self.tower,

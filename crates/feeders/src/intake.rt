@@ -21,7 +21,7 @@ ghost use Rattle.logs.specs.Start.{Start};
 use crate::fault::{FeedFault, RunFault};
 use crate::next::take_element;
 use crate::pages::{Pages, part_of, text_on};
-use crate::pending::{Pending, hold_last, read_pending};
+use crate::pending::{Known, Pending, hold_last, read_pending};
 use crate::progress::Progress;
 use crate::site::Site;
 use crate::tail_buffer::TailBuffer;
@@ -30,7 +30,6 @@ use edn_reader::Splitter;
 use edn_reader::laws::each_is_element;
 use intervals::Memory;
 use jepsen_form::laws::items_name_registers_of_the_tower;
-use jepsen_form::{FormFault, Item};
 use logs::broken_by;
 use pairing::laws::steps_are_on_named_registers;
 use shards::{Opening, Pass};
@@ -158,21 +157,20 @@ impl<'t> Intake<'t> {
     }
 
     /// Takes `front`, the prefix of a chunk with which an element ended that begins at the place `start`. The
-    /// element then waits. Its text is on `page`, and its item is `item`, where these are given.
+    /// element then waits.
     fn take_whole<'p, O: Opening, R: Wait, G: Watcher>(
         &mut self,
         site: Site<'_, '_, 't, O, R, G>,
         pages: &'t Pages,
         front: &'p [u8],
         start: usize,
-        page: Option<&'t [u8]>,
-        item: Option<Result<Item<'p>, FormFault>>,
+        known: Known<'p, 't>,
     ) -> Result<(), Memory>
         requires room { vec_len self.old.kept.bytes + length front.now ≤ vec_capacity self.old.kept.bytes }
         requires ahead { IsAhead self.old.progress }
         requires can { CanReadBehind start front.now self.old }
-        requires page { IsPageOf page (drop (start - self.old.kept.from) (self.old.kept.bytes.items ++ front.now)) }
-        requires item { IsItemOfLast site.tower.now site.field self.old.splitter (drop (start - self.old.kept.from) (self.old.kept.bytes.items ++ front.now)) item }
+        requires page { IsPageOf known.page (drop (start - self.old.kept.from) (self.old.kept.bytes.items ++ front.now)) }
+        requires item { IsItemOfLast site.tower.now site.field self.old.splitter (drop (start - self.old.kept.from) (self.old.kept.bytes.items ++ front.now)) known.item }
         ensures pending { (plan : Plan) (begun : Start) (items : List (Result AnItem AFormFault)) (pass : PassModel) (last : APiece)
             → IsLast self.old.splitter last → last.text ≡ drop (start - self.old.kept.from) (self.old.kept.bytes.items ++ front.entry.now)
             → IsAt plan begun items self.old.progress pass
@@ -192,15 +190,7 @@ impl<'t> Intake<'t> {
             return Ok(());
         }
         let text = &front[start - end..];
-        match hold_last(
-            site,
-            pages,
-            &mut self.progress,
-            &self.splitter,
-            text,
-            page,
-            item,
-        ) {
+        match hold_last(site, pages, &mut self.progress, &self.splitter, text, known) {
             Ok(pending) => {
                 self.pending = pending;
                 self.kept.restart(end + front.len());
@@ -242,10 +232,8 @@ impl<'t> Intake<'t> {
     {
         each_is_element();
         if self.kept.make_room(piece.len()).is_err() {
-            return Err(FeedFault {
-                fault: RunFault::Memory,
-                used: 0,
-            });
+            let fault = RunFault::Memory;
+            return Err(FeedFault { fault, used: 0 });
         }
         let before = self.splitter.taken() as usize;
         let next = match take_element(&mut self.splitter, piece, site.field, site.tower) {
@@ -258,10 +246,8 @@ impl<'t> Intake<'t> {
                 let used = self.splitter.taken() as usize - before;
                 let keep = self.splitter.keep_from() as usize;
                 self.kept.take(&piece[..used], keep);
-                return Err(FeedFault {
-                    fault: RunFault::Memory,
-                    used,
-                });
+                let fault = RunFault::Memory;
+                return Err(FeedFault { fault, used });
             }
         };
         let used = next.taken.used;
@@ -271,12 +257,13 @@ impl<'t> Intake<'t> {
         };
         let front = &piece[..used];
         let start = start as usize;
-        let text = text_on(page, before, start, used);
-        if let Err(memory) = self.take_whole(site, pages, front, start, text, next.item) {
-            return Err(FeedFault {
-                fault: RunFault::from(memory),
-                used,
-            });
+        let known = Known {
+            page: text_on(page, before, start, used),
+            item: next.item,
+        };
+        if let Err(memory) = self.take_whole(site, pages, front, start, known) {
+            let fault = RunFault::from(memory);
+            return Err(FeedFault { fault, used });
         }
         match self.settle(site, pages, pass) {
             Ok(()) => Ok(Some(used)),

@@ -3,7 +3,6 @@
 ghost use Rattle.std.specs.Prelude.{◌≡◌, ◌-◌, ◌≤◌, ℕ, List, take, drop, IfOk, IfSome};
 ghost use Rattle.feeders.specs.Pending.{IsPageOf};
 
-use boxcar::Vec as Shelf;
 use intervals::Memory;
 use std::alloc::Global;
 use std::sync::Wait;
@@ -12,14 +11,14 @@ use std::sync::Wait;
 /// at once.
 #[derive(Drop)]
 pub struct Pages {
-    texts: Shelf<Vec<u8>>,
+    texts: boxcar::Vec<Vec<u8>>,
 }
 
 impl Pages {
     /// Pages without a text.
     pub fn new(alloc: Global) -> Result<Pages, Memory> {
         Ok(Pages {
-            texts: Shelf::new(alloc)?,
+            texts: boxcar::Vec::new(alloc)?,
         })
     }
 

@@ -34,6 +34,14 @@ pub enum Pending<'t> {
     Paired(Result<Option<Step<'t>>, Code>),
 }
 
+/// What is known already of an element that has ended: its text, where that is on a page, and its item, where that was
+/// read.
+#[derive(Clone, Copy)]
+pub struct Known<'p, 't> {
+    pub page: Option<&'t [u8]>,
+    pub item: Option<Result<Item<'p>, FormFault>>,
+}
+
 /// Reads an element whose text is on no page, and holds its item.
 pub fn read_pending<'t, O: Opening, R: Wait, G: Watcher>(
     site: Site<'_, '_, 't, O, R, G>,
@@ -49,31 +57,30 @@ pub fn read_pending<'t, O: Opening, R: Wait, G: Watcher>(
     hold_item(site, pages, progress, item, element.text(), None)
 }
 
-/// Holds the item of the element that ended last, which has this text, also on a page where one is given. Where
-/// the item was not read yet, it is read here.
+/// Holds the item of the element that ended last, which has this text. Where the item was not read yet, it is read
+/// here.
 pub fn hold_last<'t, 'p, O: Opening, R: Wait, G: Watcher>(
     site: Site<'_, '_, 't, O, R, G>,
     pages: &'t Pages,
     progress: &mut Progress<'t>,
     splitter: &Splitter,
     text: &'p [u8],
-    page: Option<&'t [u8]>,
-    item: Option<Result<Item<'p>, FormFault>>,
+    known: Known<'p, 't>,
 ) -> Result<Pending<'t>, Memory>
     requires ahead { IsAhead progress.old }
     requires fits { splitter.now.ended.start + length text.now < 2 ^ 64 }
     requires element { (piece : APiece) × IsLast splitter.now piece × IsElement piece × (piece.text ≡ text.now) }
-    requires page { IsPageOf page text.now }
-    requires item { IsItemOfLast site.tower.now site.field splitter.now text.now item }
+    requires page { IsPageOf known.page text.now }
+    requires item { IsItemOfLast site.tower.now site.field splitter.now text.now known.item }
     ensures read { (last : APiece) → IsLast splitter.now last → last.text ≡ text.entry.now
         → IfOk result (IsReadAs site.entry.tower.now site.entry.field last progress.old progress.new) }
     ensures kept { OnErr result (progress.new ≡ progress.old) }
 {
-    match item {
-        Some(item) => hold_item(site, pages, progress, item, text, page),
+    match known.item {
+        Some(item) => hold_item(site, pages, progress, item, text, known.page),
         None => {
             let item = read_item(splitter.lend(text), site.field, site.tower);
-            hold_item(site, pages, progress, item, text, page)
+            hold_item(site, pages, progress, item, text, known.page)
         }
     }
 }

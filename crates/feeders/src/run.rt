@@ -9,38 +9,30 @@ ghost use Rattle.logs.specs.Run.{IsRun};
 
 use crate::fault::RunFault;
 use crate::pages::Pages;
+use crate::setup::Setup;
 use crate::several::{feed_all, read_all, read_in_turn, unzipped};
-use crate::site::Site;
 use crate::watcher::Watcher;
-use jepsen_form::MomentField;
 use logs::{Log, Run};
 use shards::{Auditor, Opening, Pass};
-use std::alloc::Global;
 use std::io::Read;
 use std::marker::Brand;
 use std::sync::Wait;
 use std::thread::Threads;
-use tower_file::Tower;
 
 /// Feeds traces to the registers of a tower, each by a thread of its own, this one among them: feeder `i` has
-/// trace `i`. Moments are read under `:index` or under `:time`, as `field` says. It waits for the shards' locks.
-/// Where feeders fail, the fault is that of the one with the least number.
+/// trace `i`. It waits for the shards' locks. Where feeders fail, the fault is that of the one with the least number.
 pub fn run_traces<'t, R: Threads + Wait + Sync, G: Watcher>(
-    rt: &R,
-    alloc: Global,
-    tower: &Tower,
+    setup: Setup<'_, '_, R>,
     traces: &[&'t [u8]],
-    field: MomentField,
-    shards: u32,
     gate: &G,
 ) -> Result<Run<'t>, RunFault>
     requires traces { (1 ≤ length traces.now) × (length traces.now ≤ 256) }
-    requires shards { (1 ≤ shards) × (shards ≤ 64) }
-    ensures run { IfOk result (λ run. IsRun tower.now field shards (map (λ trace. trace.now) traces.entry.now) run.closed run.logs.items) }
+    requires shards { (1 ≤ setup.shards) × (setup.shards ≤ 64) }
+    ensures run { IfOk result (λ run. IsRun setup.entry.tower.now setup.entry.field setup.entry.shards (map (λ trace. trace.now) traces.entry.now) run.closed run.logs.items) }
     ensures by_text { IfOk result (λ run. All IsNotOfReading run.logs.items) }
-    ensures fault { IfErr result (MayEnd (plan_of 0 tower.now shards (length traces.now))) }
+    ensures fault { IfErr result (MayEnd (plan_of 0 setup.entry.tower.now setup.entry.shards (length traces.now))) }
 {
-    run_in::<Brand, R, G>(rt, alloc, tower, traces, field, shards, gate)
+    run_in::<Brand, R, G>(setup, traces, gate)
 }
 
 /// Feeds what each reader gives, in pieces as they come, each by a thread of its own, this one among them: feeder `i` has
@@ -49,41 +41,33 @@ pub fn run_traces<'t, R: Threads + Wait + Sync, G: Watcher>(
 /// that were read. An interrupted call is made again, and counts. It waits for the shards' locks and for other
 /// pushes to the pages.
 pub fn run_readers<'t, R: Threads + Wait + Sync, S: Read + Drop + Send, G: Watcher>(
-    rt: &R,
-    alloc: Global,
-    tower: &'t Tower,
+    setup: Setup<'_, 't, R>,
     readers: Vec<S>,
     pages: &'t Pages,
-    field: MomentField,
-    shards: u32,
     gate: &G,
 ) -> Result<Run<'t>, RunFault>
     requires readers { (1 ≤ vec_len readers) × (vec_len readers ≤ 256) }
-    requires shards { (1 ≤ shards) × (shards ≤ 64) }
-    ensures run { IfOk result (λ run. (traces : List (List ℕ)) × AreReadOf (map S.remaining readers.items) run.logs.items traces × IsRun tower.now field shards traces run.closed run.logs.items) }
-    ensures fault { IfErr result (MayEnd (plan_of 0 tower.now shards (vec_len readers))) }
+    requires shards { (1 ≤ setup.shards) × (setup.shards ≤ 64) }
+    ensures run { IfOk result (λ run. (traces : List (List ℕ)) × AreReadOf (map S.remaining readers.items) run.logs.items traces × IsRun setup.entry.tower.now setup.entry.field setup.entry.shards traces run.closed run.logs.items) }
+    ensures fault { IfErr result (MayEnd (plan_of 0 setup.entry.tower.now setup.entry.shards (vec_len readers))) }
 {
-    read_in::<Brand, R, S, G>(rt, alloc, tower, readers, pages, field, shards, gate)
+    read_in::<Brand, R, S, G>(setup, readers, pages, gate)
 }
 
 /// Feeds what readers give, as `run_readers` does, but on this thread alone, one reader after another: so where
 /// traces meet on a register, each run refuses the same edits.
 pub fn run_in_turn<'t, R: Wait, S: Read + Drop, G: Watcher>(
-    rt: &R,
-    alloc: Global,
-    tower: &'t Tower,
+    setup: Setup<'_, 't, R>,
     readers: Vec<S>,
     pages: &'t Pages,
-    field: MomentField,
-    shards: u32,
     gate: &G,
 ) -> Result<Run<'t>, RunFault>
     requires readers { (1 ≤ vec_len readers) × (vec_len readers ≤ 256) }
-    requires shards { (1 ≤ shards) × (shards ≤ 64) }
-    ensures run { IfOk result (λ run. (traces : List (List ℕ)) × AreReadOf (map S.remaining readers.items) run.logs.items traces × IsRun tower.now field shards traces run.closed run.logs.items) }
-    ensures fault { IfErr result (MayEnd (plan_of 0 tower.now shards (vec_len readers))) }
+    requires shards { (1 ≤ setup.shards) × (setup.shards ≤ 64) }
+    ensures run { IfOk result (λ run. (traces : List (List ℕ)) × AreReadOf (map S.remaining readers.items) run.logs.items traces × IsRun setup.entry.tower.now setup.entry.field setup.entry.shards traces run.closed run.logs.items) }
+    ensures fault { IfErr result (MayEnd (plan_of 0 setup.entry.tower.now setup.entry.shards (vec_len readers))) }
 {
-    turn_in::<Brand, R, S, G>(rt, alloc, tower, readers, pages, field, shards, gate)
+    turn_in::<Brand, R, S, G>(setup, readers, pages, gate)
 }
 
 /// `run_readers` for the plan of the opening `O`.
@@ -93,89 +77,57 @@ fn read_in<
     R: Threads + Wait + Sync,
     S: Read + Drop + Send,
     G: Watcher,
->(
-    rt: &R,
-    alloc: Global,
-    tower: &'t Tower,
-    readers: Vec<S>,
-    pages: &'t Pages,
-    field: MomentField,
-    shards: u32,
-    gate: &G,
-) -> Result<Run<'t>, RunFault>
-    requires opening { O.plan ≡ plan_of 0 tower.now shards (vec_len readers) }
+>(setup: Setup<'_, 't, R>, readers: Vec<S>, pages: &'t Pages, gate: &G) -> Result<Run<'t>, RunFault>
+    requires opening { O.plan ≡ plan_of 0 setup.tower.now setup.shards (vec_len readers) }
     requires readers { (1 ≤ vec_len readers) × (vec_len readers ≤ 256) }
-    requires shards { (1 ≤ shards) × (shards ≤ 64) }
-    ensures run { IfOk result (λ run. (traces : List (List ℕ)) × AreReadOf (map S.remaining readers.items) run.logs.items traces × IsRun tower.now field shards traces run.closed run.logs.items) }
+    requires shards { (1 ≤ setup.shards) × (setup.shards ≤ 64) }
+    ensures run { IfOk result (λ run. (traces : List (List ℕ)) × AreReadOf (map S.remaining readers.items) run.logs.items traces × IsRun setup.entry.tower.now setup.entry.field setup.entry.shards traces run.closed run.logs.items) }
     ensures fault { IfErr result (MayEnd O.plan) }
 {
-    let (auditor, passes) = Auditor::<O>::open(alloc, 0, tower, shards, readers.len() as u32)?;
-    let outcomes = read_all(
-        rt, alloc, &auditor, gate, tower, field, pages, passes, readers,
-    )?;
-    let (passes, logs) = unzipped(alloc, outcomes)?;
+    let feeders = readers.len() as u32;
+    let (auditor, passes) = Auditor::<O>::open(setup.alloc, 0, setup.tower, setup.shards, feeders)?;
+    let outcomes = read_all(setup.site(&auditor, gate), pages, passes, readers)?;
+    let (passes, logs) = unzipped(setup.alloc, outcomes)?;
     closed_run(auditor, passes, logs)
 }
 
 /// `run_traces` for the plan of the opening `O`.
 fn run_in<'t, O: Opening + Send + Sync, R: Threads + Wait + Sync, G: Watcher>(
-    rt: &R,
-    alloc: Global,
-    tower: &Tower,
+    setup: Setup<'_, '_, R>,
     traces: &[&'t [u8]],
-    field: MomentField,
-    shards: u32,
     gate: &G,
 ) -> Result<Run<'t>, RunFault>
-    requires opening { O.plan ≡ plan_of 0 tower.now shards (length traces.now) }
+    requires opening { O.plan ≡ plan_of 0 setup.tower.now setup.shards (length traces.now) }
     requires traces { (1 ≤ length traces.now) × (length traces.now ≤ 256) }
-    requires shards { (1 ≤ shards) × (shards ≤ 64) }
-    ensures run { IfOk result (λ run. IsRun tower.now field shards (map (λ trace. trace.now) traces.entry.now) run.closed run.logs.items) }
+    requires shards { (1 ≤ setup.shards) × (setup.shards ≤ 64) }
+    ensures run { IfOk result (λ run. IsRun setup.entry.tower.now setup.entry.field setup.entry.shards (map (λ trace. trace.now) traces.entry.now) run.closed run.logs.items) }
     ensures by_text { IfOk result (λ run. All IsNotOfReading run.logs.items) }
     ensures fault { IfErr result (MayEnd O.plan) }
 {
-    let (auditor, passes) = Auditor::<O>::open(alloc, 0, tower, shards, traces.len() as u32)?;
-    let site = Site {
-        rt,
-        alloc,
-        auditor: &auditor,
-        gate,
-        tower,
-        field,
-    };
-    let outcomes = feed_all(site, passes, traces)?;
-    let (passes, logs) = unzipped(alloc, outcomes)?;
+    let feeders = traces.len() as u32;
+    let (auditor, passes) = Auditor::<O>::open(setup.alloc, 0, setup.tower, setup.shards, feeders)?;
+    let outcomes = feed_all(setup.site(&auditor, gate), passes, traces)?;
+    let (passes, logs) = unzipped(setup.alloc, outcomes)?;
     closed_run(auditor, passes, logs)
 }
 
 /// `run_in_turn` for the plan of the opening `O`.
 fn turn_in<'t, O: Opening, R: Wait, S: Read + Drop, G: Watcher>(
-    rt: &R,
-    alloc: Global,
-    tower: &'t Tower,
+    setup: Setup<'_, 't, R>,
     readers: Vec<S>,
     pages: &'t Pages,
-    field: MomentField,
-    shards: u32,
     gate: &G,
 ) -> Result<Run<'t>, RunFault>
-    requires opening { O.plan ≡ plan_of 0 tower.now shards (vec_len readers) }
+    requires opening { O.plan ≡ plan_of 0 setup.tower.now setup.shards (vec_len readers) }
     requires readers { (1 ≤ vec_len readers) × (vec_len readers ≤ 256) }
-    requires shards { (1 ≤ shards) × (shards ≤ 64) }
-    ensures run { IfOk result (λ run. (traces : List (List ℕ)) × AreReadOf (map S.remaining readers.items) run.logs.items traces × IsRun tower.now field shards traces run.closed run.logs.items) }
+    requires shards { (1 ≤ setup.shards) × (setup.shards ≤ 64) }
+    ensures run { IfOk result (λ run. (traces : List (List ℕ)) × AreReadOf (map S.remaining readers.items) run.logs.items traces × IsRun setup.entry.tower.now setup.entry.field setup.entry.shards traces run.closed run.logs.items) }
     ensures fault { IfErr result (MayEnd O.plan) }
 {
-    let (auditor, passes) = Auditor::<O>::open(alloc, 0, tower, shards, readers.len() as u32)?;
-    let site = Site {
-        rt,
-        alloc,
-        auditor: &auditor,
-        gate,
-        tower,
-        field,
-    };
-    let outcomes = read_in_turn(site, pages, passes, readers)?;
-    let (passes, logs) = unzipped(alloc, outcomes)?;
+    let feeders = readers.len() as u32;
+    let (auditor, passes) = Auditor::<O>::open(setup.alloc, 0, setup.tower, setup.shards, feeders)?;
+    let outcomes = read_in_turn(setup.site(&auditor, gate), pages, passes, readers)?;
+    let (passes, logs) = unzipped(setup.alloc, outcomes)?;
     closed_run(auditor, passes, logs)
 }
 

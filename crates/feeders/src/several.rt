@@ -15,14 +15,12 @@ use crate::site::Site;
 use crate::stream::feed_reader;
 use crate::trace::feed_trace;
 use crate::watcher::Watcher;
-use jepsen_form::MomentField;
 use logs::Log;
-use shards::{Auditor, Opening, Pass};
+use shards::{Opening, Pass};
 use std::alloc::{AllocError, Global};
 use std::io::Read;
 use std::sync::Wait;
 use std::thread::{Threads, map_vec};
-use tower_file::Tower;
 
 /// Feeds each trace with its pass, by threads as they can be made. Where several feeders fail the answer is the fault
 /// of the one with the least number, after all have ended.
@@ -61,23 +59,26 @@ pub fn read_all<
     G: Watcher,
     S: Read + Drop + Send,
 >(
-    rt: &R,
-    alloc: Global,
-    auditor: &Auditor<'t, O>,
-    gate: &G,
-    tower: &'t Tower,
-    field: MomentField,
+    site: Site<'_, 't, 't, O, R, G>,
     pages: &'t Pages,
     passes: Vec<Pass<'t>>,
     readers: Vec<S>,
 ) -> Result<Vec<FeederOutcome<'t>>, RunFault>
     requires some { 0 < O.plan.shards }
-    requires of_tower { O.plan.claims ≡ claims_of tower.now }
+    requires of_tower { O.plan.claims ≡ claims_of site.tower.now }
     requires fresh { AreFresh O.plan passes.items }
     requires each { vec_len passes ≡ vec_len readers }
-    ensures fed { IfOk result (λ outcomes. AreReadAndFed O.plan tower.now field passes.entry.items (map S.remaining readers.items) outcomes.items) }
+    ensures fed { IfOk result (λ outcomes. AreReadAndFed O.plan site.entry.tower.now site.entry.field passes.entry.items (map S.remaining readers.items) outcomes.items) }
     ensures fault { IfErr result (MayEnd O.plan) }
 {
+    let Site {
+        rt,
+        alloc,
+        auditor,
+        gate,
+        tower,
+        field,
+    } = site;
     let pairs = paired(alloc, passes, readers)?;
     let ended = map_vec(
         rt,

@@ -48,13 +48,12 @@ pub fn feed_reader<'t, O: Opening, R: Wait, G: Watcher, S: Read + Drop>(
         match source.next(buffer) {
             Ok(count) => {
                 if count == 0 {
-                    feeder.end(site.rt, site.alloc, site.auditor, site.gate, &mut pass)?;
+                    feeder.end(site.rt, site.auditor, site.gate, &mut pass)?;
                     return Ok(close(site.gate, feeder, pass));
                 }
                 let piece = &buffer[..count];
                 if let Err(failed) = feeder.feed(
                     site.rt,
-                    site.alloc,
                     site.auditor,
                     site.gate,
                     &mut pass,

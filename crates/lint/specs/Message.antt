@@ -17,67 +17,19 @@ use Rattle.jepsen_form.specs.declared.fault.FormFault.{FormFault}
 use Rattle.jepsen_form.specs.declared.fault.FormFault.TheVariants as forms
 use Rattle.jepsen_form.specs.declared.fault.FormField.{FormField}
 use Rattle.jepsen_form.specs.declared.fault.FormField.TheVariants as fields
-use Rattle.pairing.specs.declared.fault.PairFault.{PairFault}
-use Rattle.pairing.specs.declared.fault.PairFault.TheVariants as pairs
-use Rattle.logs.specs.declared.log.BreakCode.{BreakCode}
-use Rattle.logs.specs.declared.log.BreakCode.TheVariants as breaks
 use Rattle.logs.specs.declared.log.Code.{Code}
 use Rattle.logs.specs.declared.log.Code.TheVariants as codings
+use Rattle.texts.specs.Codes.{message_of_code}
 use Rattle.lint.specs.declared.finding.Amiss.{Amiss}
 use Rattle.lint.specs.declared.finding.Amiss.TheVariants as amiss
 use Rattle.lint.specs.declared.finding.Note.{Note}
 use Rattle.lint.specs.declared.finding.Note.TheVariants as notes
-use Rattle.lint.specs.declared.sentences.TheConstants.{NO_MAP, FIELD_MISSING, FIELD_TWICE, BAD_TYPE, UNSUPPORTED_F, BAD_VALUE, BAD_MOMENT, NO_REGISTER, PROCESS_BUSY, NO_INVOCATION, ANSWER_MISMATCH, OUT_OF_MEMORY, UNKNOWN_OPERATION, OPERATION_TAKEN, END_NOT_AFTER_BEGIN, MOMENT_TAKEN, MOMENT_TOO_LARGE, NOT_A_WRITER, WRITES_OVERLAP, VALUE_TAKEN, OUT_OF_DOMAIN, CLAIM_FIXED, CLAIM_WRITERS, CLAIM_OVERLAP, CLAIM_REPEATS, CLAIM_INITIAL, TRUNCATED, STRAY_CLOSE, WRONG_CLOSE, TOO_DEEP, ODD_MAP, TAG_WITHOUT_ELEMENT, READ_FAILED, TOO_LONG, SKIPPED, NO_OPERATION, UNUSED, NO_VALUE, NEAR_FIELD, UNREAD, UNANSWERED, SILENT_WRITER, SAME_MOMENT, OUT_OF_PROPORTION, RESTS, RESTS_ON_EDIT, TEXT_BREAKS, PART_MISSHAPEN, NAME_TAKEN, WRITER_COUNT, UNKNOWN_PART, EMPTY_DOMAIN, INITIAL_OUT_OF_DOMAIN, TOO_MANY, UNKNOWN_INITIAL, E1_TRUNCATED, E2_STRAY_CLOSE, E3_WRONG_CLOSE, E4_TOO_DEEP, E5_ODD_MAP, E6_TAG_WITHOUT_ELEMENT, E7_MEMORY, AT_FIRST}
+use Rattle.lint.specs.Grade.{finding_code}
+use Rattle.lint.specs.declared.sentences.TheConstants.{SKIPPED, NO_OPERATION, UNUSED, NO_VALUE, NEAR_FIELD, UNREAD, UNANSWERED, SILENT_WRITER, SAME_MOMENT, OUT_OF_PROPORTION, RESTS, RESTS_ON_EDIT, E1_TRUNCATED, E2_STRAY_CLOSE, E3_WRONG_CLOSE, E4_TOO_DEEP, E5_ODD_MAP, E6_TAG_WITHOUT_ELEMENT, E7_MEMORY, AT_FIRST}
 
 -- an operation as it is printed: the number of its trace, a colon, and the place of its invocation
 abbrev pub operation_text : OpId → List ℕ
 operation_text id = decimal id.feeder ++ codes ":" ++ decimal id.event
-
--- the words for an element that is no item
-abbrev pub form_words : FormFault → List ℕ
-form_words forms.NotAMap = NO_MAP.now
-form_words (forms.MissingField field) = FIELD_MISSING.now
-form_words (forms.DuplicateField field) = FIELD_TWICE.now
-form_words forms.BadType = BAD_TYPE.now
-form_words forms.UnsupportedF = UNSUPPORTED_F.now
-form_words forms.BadValue = BAD_VALUE.now
-form_words forms.BadMoment = BAD_MOMENT.now
-form_words forms.NoRegister = NO_REGISTER.now
-
--- the words for an item that the pairing of events refuses
-abbrev pub pair_words : PairFault → List ℕ
-pair_words pairs.ProcessBusy = PROCESS_BUSY.now
-pair_words pairs.NoInvocation = NO_INVOCATION.now
-pair_words pairs.AnswerMismatch = ANSWER_MISMATCH.now
-pair_words pairs.Memory = OUT_OF_MEMORY.now
-
--- the words for an edit that its register refuses
-abbrev pub refusal_words : Refusal → List ℕ
-refusal_words refusals.UnknownOp = UNKNOWN_OPERATION.now
-refusal_words refusals.OpTaken = OPERATION_TAKEN.now
-refusal_words refusals.EndNotAfterBegin = END_NOT_AFTER_BEGIN.now
-refusal_words (refusals.MomentTaken moment id) = MOMENT_TAKEN.now
-refusal_words refusals.MomentTooLarge = MOMENT_TOO_LARGE.now
-refusal_words refusals.NotAWriter = NOT_A_WRITER.now
-refusal_words (refusals.WritesOverlap id) = WRITES_OVERLAP.now
-refusal_words (refusals.ValueTaken holder) = VALUE_TAKEN.now
-refusal_words refusals.OutOfDomain = OUT_OF_DOMAIN.now
-refusal_words refusals.ClaimFixed = CLAIM_FIXED.now
-refusal_words refusals.ClaimWriters = CLAIM_WRITERS.now
-refusal_words (refusals.ClaimOverlap one other) = CLAIM_OVERLAP.now
-refusal_words (refusals.ClaimRepeats id holder) = CLAIM_REPEATS.now
-refusal_words refusals.ClaimInitial = CLAIM_INITIAL.now
-
--- the words for a trace that breaks
-abbrev pub break_words : BreakCode → List ℕ
-break_words breaks.Truncated = TRUNCATED.now
-break_words breaks.StrayClose = STRAY_CLOSE.now
-break_words breaks.WrongClose = WRONG_CLOSE.now
-break_words breaks.TooDeep = TOO_DEEP.now
-break_words breaks.OddMap = ODD_MAP.now
-break_words breaks.TagWithoutElement = TAG_WITHOUT_ELEMENT.now
-break_words breaks.ReadFailed = READ_FAILED.now
-break_words breaks.TooLong = TOO_LONG.now
 
 -- a field of an element as it is written
 abbrev pub field_word : FormField → List ℕ
@@ -93,19 +45,6 @@ field_word fields.End = codes ":end"
 field_word fields.Ask = codes ":ask"
 field_word fields.Register = codes ":register"
 field_word fields.Claimed = codes ":kind"
-
--- the words for a fault of a tower file
-abbrev pub tower_words : TowerFault → List ℕ
-tower_words (towers.Edn what) = TEXT_BREAKS.now
-tower_words (towers.Shape what) = PART_MISSHAPEN.now
-tower_words towers.NameTaken = NAME_TAKEN.now
-tower_words towers.WriterCount = WRITER_COUNT.now
-tower_words towers.UnknownPart = UNKNOWN_PART.now
-tower_words towers.EmptyDomain = EMPTY_DOMAIN.now
-tower_words towers.InitialOutOfDomain = INITIAL_OUT_OF_DOMAIN.now
-tower_words towers.TooMany = TOO_MANY.now
-tower_words towers.Memory = OUT_OF_MEMORY.now
-tower_words towers.UnknownInitial = UNKNOWN_INITIAL.now
 
 -- the words for a fault of a tower file's text
 abbrev pub edn_words : EdnFault → List ℕ
@@ -134,14 +73,7 @@ tower_word parts.Fixed = codes ":fixed"
 abbrev pub tower_text : TowerFault → List ℕ
 tower_text (towers.Edn fault) = edn_words fault
 tower_text (towers.Shape field) = tower_word field
-tower_text towers.NameTaken = []
-tower_text towers.WriterCount = []
-tower_text towers.UnknownPart = []
-tower_text towers.EmptyDomain = []
-tower_text towers.InitialOutOfDomain = []
-tower_text towers.TooMany = []
-tower_text towers.Memory = []
-tower_text towers.UnknownInitial = []
+tower_text fault = []
 
 -- the words for a field of a tower file that is not read, and that may be meant for an absent one
 abbrev pub unread_words : Option TowerField → List ℕ
@@ -185,44 +117,23 @@ value_holder_text holders.Initial = AT_FIRST.now
 
 -- the field that is missing or given twice; empty for another fault of form
 abbrev pub field_text : FormFault → List ℕ
-field_text forms.NotAMap = []
 field_text (forms.MissingField field) = field_word field
 field_text (forms.DuplicateField field) = field_word field
-field_text forms.BadType = []
-field_text forms.UnsupportedF = []
-field_text forms.BadValue = []
-field_text forms.BadMoment = []
-field_text forms.NoRegister = []
+field_text fault = []
 
 -- what the words for a refusal end with: a moment, and operations that the edit meets
 abbrev pub operations_text : Refusal → List ℕ
-operations_text refusals.UnknownOp = []
-operations_text refusals.OpTaken = []
-operations_text refusals.EndNotAfterBegin = []
 operations_text (refusals.MomentTaken moment id) = decimal moment.0 ++ codes " of " ++ operation_text id
-operations_text refusals.MomentTooLarge = []
-operations_text refusals.NotAWriter = []
 operations_text (refusals.WritesOverlap id) = operation_text id
 operations_text (refusals.ValueTaken holder) = value_holder_text holder
-operations_text refusals.OutOfDomain = []
-operations_text refusals.ClaimFixed = []
-operations_text refusals.ClaimWriters = []
 operations_text (refusals.ClaimOverlap one other) = operation_text one ++ codes " and " ++ operation_text other
 operations_text (refusals.ClaimRepeats id holder) = operation_text id ++ codes " and " ++ value_holder_text holder
-operations_text refusals.ClaimInitial = []
-
--- the words for a refused element, by what refused it
-abbrev pub words_of_code : Code → List ℕ
-words_of_code (codings.Form fault) = form_words fault
-words_of_code (codings.Pair fault) = pair_words fault
-words_of_code (codings.Register refusal) = refusal_words refusal
+operations_text refusal = []
 
 -- the words for what is amiss
 abbrev pub words_of : Amiss → List ℕ
-words_of (amiss.Refused event code) = words_of_code code
-words_of (amiss.Broken code) = break_words code
-words_of (amiss.Tower fault) = tower_words fault
 words_of (amiss.Noted event note) = note_words note
+words_of what = message_of_code (finding_code what)
 
 -- what the words for a refused element end with
 abbrev pub details_of_code : Code → List ℕ

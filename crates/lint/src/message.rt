@@ -1,16 +1,16 @@
 //! The messages that say what is amiss.
 
 ghost use Rattle.std.specs.Prelude.{◌≡◌, ◌++◌, OnOk, string_bytes};
-ghost use Rattle.lint.specs.Message.{break_words, details_of, field_word, field_text, form_words, value_holder_text, operation_text, message_of, note_words, edn_words, noted_text, operations_text, pair_words, refusal_words, tower_text, tower_word, tower_words, words_of};
+ghost use Rattle.lint.specs.Message.{details_of, field_word, field_text, value_holder_text, operation_text, message_of, note_words, edn_words, noted_text, operations_text, tower_text, tower_word, words_of};
 
 use crate::finding::{Amiss, Note};
 use crate::sentences::*;
 use edn_reader::EdnFault;
 use intervals::{Holder, OpId, Refusal};
 use jepsen_form::{FormFault, FormField};
-use logs::{BreakCode, Code};
-use pairing::PairFault;
+use logs::Code;
 use std::alloc::AllocError;
+use texts::message_of_code;
 use tower_file::{TowerFault, TowerField};
 
 /// Adds the message: the words for what is amiss, and what they end with.
@@ -25,74 +25,8 @@ fn words(what: &Amiss) -> &'static str
     ensures { result.now ≡ words_of what.now }
 {
     match what {
-        Amiss::Refused(_, Code::Form(fault)) => form_words(fault),
-        Amiss::Refused(_, Code::Pair(fault)) => pair_words(fault),
-        Amiss::Refused(_, Code::Register(refusal)) => refusal_words(refusal),
-        Amiss::Broken(code) => break_words(*code),
-        Amiss::Tower(fault) => tower_words(fault),
         Amiss::Noted(_, note) => note_words(note),
-    }
-}
-
-fn form_words(fault: &FormFault) -> &'static str
-    ensures { result.now ≡ form_words fault.now }
-{
-    match fault {
-        FormFault::NotAMap => NO_MAP,
-        FormFault::MissingField(_) => FIELD_MISSING,
-        FormFault::DuplicateField(_) => FIELD_TWICE,
-        FormFault::BadType => BAD_TYPE,
-        FormFault::UnsupportedF => UNSUPPORTED_F,
-        FormFault::BadValue => BAD_VALUE,
-        FormFault::BadMoment => BAD_MOMENT,
-        FormFault::NoRegister => NO_REGISTER,
-    }
-}
-
-fn pair_words(fault: &PairFault) -> &'static str
-    ensures { result.now ≡ pair_words fault.now }
-{
-    match fault {
-        PairFault::ProcessBusy => PROCESS_BUSY,
-        PairFault::NoInvocation => NO_INVOCATION,
-        PairFault::AnswerMismatch => ANSWER_MISMATCH,
-        PairFault::Memory => OUT_OF_MEMORY,
-    }
-}
-
-fn refusal_words(refusal: &Refusal) -> &'static str
-    ensures { result.now ≡ refusal_words refusal.now }
-{
-    match refusal {
-        Refusal::UnknownOp => UNKNOWN_OPERATION,
-        Refusal::OpTaken => OPERATION_TAKEN,
-        Refusal::EndNotAfterBegin => END_NOT_AFTER_BEGIN,
-        Refusal::MomentTaken(..) => MOMENT_TAKEN,
-        Refusal::MomentTooLarge => MOMENT_TOO_LARGE,
-        Refusal::NotAWriter => NOT_A_WRITER,
-        Refusal::WritesOverlap(_) => WRITES_OVERLAP,
-        Refusal::ValueTaken(_) => VALUE_TAKEN,
-        Refusal::OutOfDomain => OUT_OF_DOMAIN,
-        Refusal::ClaimFixed => CLAIM_FIXED,
-        Refusal::ClaimWriters => CLAIM_WRITERS,
-        Refusal::ClaimOverlap(..) => CLAIM_OVERLAP,
-        Refusal::ClaimRepeats(..) => CLAIM_REPEATS,
-        Refusal::ClaimInitial => CLAIM_INITIAL,
-    }
-}
-
-fn break_words(code: BreakCode) -> &'static str
-    ensures { result.now ≡ break_words code }
-{
-    match code {
-        BreakCode::Truncated => TRUNCATED,
-        BreakCode::StrayClose => STRAY_CLOSE,
-        BreakCode::WrongClose => WRONG_CLOSE,
-        BreakCode::TooDeep => TOO_DEEP,
-        BreakCode::OddMap => ODD_MAP,
-        BreakCode::TagWithoutElement => TAG_WITHOUT_ELEMENT,
-        BreakCode::ReadFailed => READ_FAILED,
-        BreakCode::TooLong => TOO_LONG,
+        Amiss::Refused(..) | Amiss::Broken(_) | Amiss::Tower(_) => message_of_code(what.code()),
     }
 }
 
@@ -149,24 +83,6 @@ fn push_noted(text: &mut String, note: &Note) -> Result<(), AllocError>
     }
 }
 
-/// The words for a fault of a tower file.
-fn tower_words(fault: &TowerFault) -> &'static str
-    ensures { result.now ≡ tower_words fault.now }
-{
-    match fault {
-        TowerFault::Edn(_) => TEXT_BREAKS,
-        TowerFault::Shape(_) => PART_MISSHAPEN,
-        TowerFault::NameTaken => NAME_TAKEN,
-        TowerFault::WriterCount => WRITER_COUNT,
-        TowerFault::UnknownPart => UNKNOWN_PART,
-        TowerFault::EmptyDomain => EMPTY_DOMAIN,
-        TowerFault::InitialOutOfDomain => INITIAL_OUT_OF_DOMAIN,
-        TowerFault::TooMany => TOO_MANY,
-        TowerFault::Memory => OUT_OF_MEMORY,
-        TowerFault::UnknownInitial => UNKNOWN_INITIAL,
-    }
-}
-
 /// What the words for a fault of a tower file end with.
 fn push_tower(text: &mut String, fault: &TowerFault) -> Result<(), AllocError>
     ensures { OnOk result (string_bytes text.new ≡ string_bytes text.old ++ tower_text fault.now) }
@@ -174,14 +90,7 @@ fn push_tower(text: &mut String, fault: &TowerFault) -> Result<(), AllocError>
     match fault {
         TowerFault::Edn(fault) => text.push_str(edn_words(fault)),
         TowerFault::Shape(field) => text.push_str(tower_word(*field)),
-        TowerFault::NameTaken
-        | TowerFault::WriterCount
-        | TowerFault::UnknownPart
-        | TowerFault::EmptyDomain
-        | TowerFault::InitialOutOfDomain
-        | TowerFault::TooMany
-        | TowerFault::Memory
-        | TowerFault::UnknownInitial => Ok(()),
+        _ => Ok(()),
     }
 }
 
@@ -223,12 +132,7 @@ fn push_field(text: &mut String, fault: &FormFault) -> Result<(), AllocError>
     match fault {
         FormFault::MissingField(field) => text.push_str(field_word(*field)),
         FormFault::DuplicateField(field) => text.push_str(field_word(*field)),
-        FormFault::NotAMap
-        | FormFault::BadType
-        | FormFault::UnsupportedF
-        | FormFault::BadValue
-        | FormFault::BadMoment
-        | FormFault::NoRegister => Ok(()),
+        _ => Ok(()),
     }
 }
 
@@ -272,15 +176,7 @@ fn push_operations(text: &mut String, refusal: &Refusal) -> Result<(), AllocErro
             text.push_str(" and ")?;
             push_holder(text, *holder)
         }
-        Refusal::UnknownOp
-        | Refusal::OpTaken
-        | Refusal::EndNotAfterBegin
-        | Refusal::MomentTooLarge
-        | Refusal::NotAWriter
-        | Refusal::OutOfDomain
-        | Refusal::ClaimFixed
-        | Refusal::ClaimWriters
-        | Refusal::ClaimInitial => Ok(()),
+        _ => Ok(()),
     }
 }
 

@@ -13,7 +13,6 @@ use Rattle.lint.specs.Found.{AreFoundIn}
 use Rattle.clap.specs.Words.{Text}
 use Rattle.tower_file.specs.Alone.{alone_tower}
 use Rattle.words.specs.Words.{AskedLint}
-use Rattle.command_parts.specs.Job.{chosen_field}
 use Rattle.lint_command.specs.Looked.{AreFindingsOfRun, AreFoundBy, AreOfTower, IsOfFault, IsPrintedAsAsked}
 
 pub none_found : (tower : TowerModel) (field : MomentField) (slices : List (Bor (List ℕ))) (found : List TraceFindings) → length slices ≡ 0 → found ≡ [] → AreFindingsOfRun tower field (map (λ slice. slice.now) slices) found
@@ -56,12 +55,12 @@ abbrev pub HasLooked : AskedLint → (Text → Option (List ℕ)) → List (List
 HasLooked asked files traces denied text status = (names : List Text) × (found : List TraceFindings) × AreFoundBy asked.tower asked files traces names found × IsPrintedAsAsked asked denied names found text status
 
 pub looked_alone : (asked : AskedLint) (files : Text → Option (List ℕ)) (traces slices : List (List ℕ)) (denied : List (Bor Text)) (found : List TraceFindings) (text : List ℕ) (status : ℕ)
-    → asked.tower ≡ None → slices ≡ traces → AreFindingsOfRun alone_tower (chosen_field asked.moments) slices found → IsPrintedAsAsked asked denied asked.traces found text status → HasLooked asked files traces denied text status
+    → asked.tower ≡ None → slices ≡ traces → AreFindingsOfRun alone_tower asked.moments slices found → IsPrintedAsAsked asked denied asked.traces found text status → HasLooked asked files traces denied text status
 looked_alone asked files traces slices denied found text status none same are told = (
   asked.traces,
   found,
   subst (λ (tower : Option Text). AreFoundBy tower asked files traces asked.traces found) (sym none)
-      (subst (λ (texts : List (List ℕ)). AreFindingsOfRun alone_tower (chosen_field asked.moments) texts found) same are, refl),
+      (subst (λ (texts : List (List ℕ)). AreFindingsOfRun alone_tower asked.moments texts found) same are, refl),
   told,
 )
 

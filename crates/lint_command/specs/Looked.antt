@@ -24,7 +24,6 @@ use Rattle.lint.specs.Tower.{HasNotesAlone, IsOneFault}
 use Rattle.words.specs.declared.lint.LintForm.{LintForm}
 use Rattle.words.specs.declared.lint.LintForm.TheVariants as asked_forms
 use Rattle.words.specs.Words.{AskedLint}
-use Rattle.command_parts.specs.Job.{chosen_field}
 use Rattle.lint_command.specs.Denied.{AreDenied}
 
 -- what is found in traces by the logs of a run over them, in one shard; nothing where there is no trace
@@ -41,7 +40,7 @@ pub record AreOfTower (asked : AskedLint) (name file : List ℕ) (traces : List 
   pub tower : TowerModel
   pub says : IsTowerOf file tower
   pub in_traces : List TraceFindings
-  pub are : AreFindingsOfRun tower (chosen_field asked.moments) traces in_traces
+  pub are : AreFindingsOfRun tower asked.moments traces in_traces
   pub in_file : List TraceFindings
   pub notes : HasNotesAlone in_file
   pub found_is : found ≡ in_traces ++ in_file
@@ -58,7 +57,7 @@ pub record IsOfFault (name file : List ℕ) (names : List Text) (found : List Tr
 
 -- what is found in the files of these names, by the tower file that is named, or else by the one register of `safe`
 abbrev pub AreFoundBy : Option Text → AskedLint → (Text → Option (List ℕ)) → List (List ℕ) → List Text → List TraceFindings → Type 0
-AreFoundBy None asked files traces names found = AreFindingsOfRun alone_tower (chosen_field asked.moments) traces found × (names ≡ asked.traces)
+AreFoundBy None asked files traces names found = AreFindingsOfRun alone_tower asked.moments traces found × (names ≡ asked.traces)
 AreFoundBy (Some name) asked files traces names found =
     IfSome (files name) (λ file. AreOfTower asked name file traces names found ⊎ IsOfFault name file names found)
 

@@ -10,7 +10,7 @@ ghost use Rattle.logs.specs.Run.{IsRun};
 ghost use Rattle.lint.specs.Found.{AreFoundIn};
 
 use edn_reader::laws::elements_of_a_prefix;
-use feeders::{Pages, RunFault, run_in_turn};
+use feeders::{Pages, RunFault, Setup, run_in_turn};
 use jepsen_form::MomentField;
 use lint::{Findings, lint_traces};
 use shards::NoGate;
@@ -35,7 +35,14 @@ pub fn lint<R: Wait>(
     elements_of_a_prefix();
     let pages = Pages::new(alloc)?;
     let readers = Vec::from_slice(alloc, texts)?;
-    let run = run_in_turn(rt, alloc, tower, readers, &pages, field, 1, &NoGate)?;
+    let setup = Setup {
+        rt,
+        alloc,
+        tower,
+        field,
+        shards: 1,
+    };
+    let run = run_in_turn(setup, readers, &pages, &NoGate)?;
     let found = lint_traces(alloc, tower, texts, field, &run)?;
     Ok(found)
 }

@@ -4,7 +4,6 @@ ghost use Rattle.std.specs.Prelude.{◌≡◌, ◌≢◌, ◌≤◌, ◌⊎◌, 
 ghost use Rattle.clap.specs.Words.{Text};
 ghost use Rattle.tower_file.specs.Alone.{alone_tower};
 ghost use Rattle.words.specs.Words.{asked_lint};
-ghost use Rattle.command_parts.specs.Job.{chosen_field};
 ghost use Rattle.lint_command.specs.Looked.{AreFindingsOfRun, AreOfTower, IsLooked, IsOfFault, IsPrintedAsAsked, format_by};
 ghost use Rattle.lint.specs.Tower.{HasNotesAlone, IsOneFault};
 ghost use Rattle.lint.specs.declared.finding.TraceFindings.{TraceFindings};
@@ -13,7 +12,7 @@ ghost use Rattle.command_parts.specs.Files.{AreHeld};
 use crate::deny::denied_codes;
 use crate::linting::lint;
 use command_parts::{
-    CommandFault, Files, TRACE_LIMIT, field_of, read_file, read_files, the_tower, write_text,
+    CommandFault, Files, TRACE_LIMIT, read_file, read_files, the_tower, write_text,
 };
 use lint::{Findings, Format, SourceText, lint_fault, lint_tower, push_findings};
 use std::alloc::{AllocError, Global};
@@ -54,7 +53,10 @@ pub fn look<'a, A: AllocGlobal + Wait, F: Files, W: Write>(
     };
     let told = match asked.tower {
         None => tell_alone(rt, asked, &slices, &denied)?,
-        Some(name) => tell_by(rt, asked, name, &file, &slices, &denied)?,
+        Some(name) => {
+            let file = SourceText { name, text: &file };
+            tell_by(rt, asked, &file, &slices, &denied)?
+        }
     };
     match write_text(out, told.text.as_str()) {
         Ok(()) => Ok(told.status),
@@ -88,7 +90,7 @@ fn tell_alone<'a, A: AllocGlobal + Wait>(
     requires most { length slices.now ≤ 256 }
     requires names { length asked.now.traces.items ≡ length slices.now }
     ensures told { IfOk result (λ told. (found : List TraceFindings)
-        × AreFindingsOfRun alone_tower (chosen_field asked.now.moments) (map (λ slice. slice.now) slices.entry.now) found
+        × AreFindingsOfRun alone_tower asked.now.moments (map (λ slice. slice.now) slices.entry.now) found
         × IsPrintedAsAsked (asked_lint asked.now) denied.entry.now (asked_lint asked.now).traces found (string_bytes told.text) told.status) }
     ensures quiet { IfErr result (λ fault. fault ≢ CommandFault.Unwritable) }
 {
@@ -107,21 +109,20 @@ fn tell_alone<'a, A: AllocGlobal + Wait>(
 fn tell_by<'a, A: AllocGlobal + Wait>(
     rt: &A,
     asked: &Lint<'a>,
-    name: &str,
-    file: &[u8],
+    file: &SourceText,
     slices: &[&[u8]],
     denied: &[&str],
 ) -> Result<Printout, CommandFault<'a>>
     requires most { length slices.now ≤ 256 }
     requires names { length asked.now.traces.items ≡ length slices.now }
     ensures told { IfOk result (λ told. (names : List Text) × (found : List TraceFindings)
-        × (AreOfTower (asked_lint asked.now) name.now file.now (map (λ slice. slice.now) slices.entry.now) names found ⊎ IsOfFault name.now file.now names found)
+        × (AreOfTower (asked_lint asked.now) file.now.name.now file.now.text.now (map (λ slice. slice.now) slices.entry.now) names found ⊎ IsOfFault file.now.name.now file.now.text.now names found)
         × IsPrintedAsAsked (asked_lint asked.now) denied.entry.now names found (string_bytes told.text) told.status) }
     ensures quiet { IfErr result (λ fault. fault ≢ CommandFault.Unwritable) }
 {
-    match Tower::read_located(rt.alloc(), file) {
-        Ok(tower) => tell_tower(rt, asked, &tower, name, file, slices, denied),
-        Err(located) => tell_fault(rt.alloc(), asked, located, name, file, denied),
+    match Tower::read_located(rt.alloc(), file.text) {
+        Ok(tower) => tell_tower(rt, asked, &tower, file, slices, denied),
+        Err(located) => tell_fault(rt.alloc(), asked, located, file, denied),
     }
 }
 
@@ -130,27 +131,26 @@ fn tell_tower<'a, A: AllocGlobal + Wait>(
     rt: &A,
     asked: &Lint<'a>,
     tower: &Tower,
-    name: &str,
-    file: &[u8],
+    file: &SourceText,
     slices: &[&[u8]],
     denied: &[&str],
 ) -> Result<Printout, CommandFault<'a>>
     requires most { length slices.now ≤ 256 }
     requires names { length asked.now.traces.items ≡ length slices.now }
     ensures told { IfOk result (λ told. (in_traces : List TraceFindings) × (in_file : List TraceFindings)
-        × AreFindingsOfRun tower.now (chosen_field asked.now.moments) (map (λ slice. slice.now) slices.entry.now) in_traces × HasNotesAlone in_file
-        × IsPrintedAsAsked (asked_lint asked.now) denied.entry.now ((asked_lint asked.now).traces ++ name.now ∷ []) (in_traces ++ in_file) (string_bytes told.text) told.status) }
+        × AreFindingsOfRun tower.now asked.now.moments (map (λ slice. slice.now) slices.entry.now) in_traces × HasNotesAlone in_file
+        × IsPrintedAsAsked (asked_lint asked.now) denied.entry.now ((asked_lint asked.now).traces ++ file.now.name.now ∷ []) (in_traces ++ in_file) (string_bytes told.text) told.status) }
     ensures quiet { IfErr result (λ fault. fault ≢ CommandFault.Unwritable) }
 {
     let alloc = rt.alloc();
     let mut found = findings(rt, asked, tower, slices)?;
-    let Ok(in_file) = lint_tower(alloc, file, &found) else {
+    let Ok(in_file) = lint_tower(alloc, file.text, &found) else {
         return Err(CommandFault::Memory);
     };
     let Ok(()) = found.append(in_file) else {
         return Err(CommandFault::Memory);
     };
-    let Ok(sources) = with_file(alloc, &asked.traces, slices, name, file) else {
+    let Ok(sources) = with_file(alloc, &asked.traces, slices, file) else {
         return Err(CommandFault::Memory);
     };
     tell(alloc, asked, &sources, &found, denied)
@@ -161,21 +161,20 @@ fn tell_fault<'a>(
     alloc: Global,
     asked: &Lint<'a>,
     located: LocatedFault,
-    name: &str,
-    file: &[u8],
+    file: &SourceText,
     denied: &[&str],
 ) -> Result<Printout, CommandFault<'a>>
-    ensures told { IfOk result (λ told. (found : List TraceFindings) × (located.fault ≢ TowerFault.Memory) × IsOneFault file.now located.fault located.span found
-        × IsPrintedAsAsked (asked_lint asked.now) denied.entry.now (name.now ∷ []) found (string_bytes told.text) told.status) }
+    ensures told { IfOk result (λ told. (found : List TraceFindings) × (located.fault ≢ TowerFault.Memory) × IsOneFault file.now.text.now located.fault located.span found
+        × IsPrintedAsAsked (asked_lint asked.now) denied.entry.now (file.now.name.now ∷ []) found (string_bytes told.text) told.status) }
     ensures quiet { IfErr result (λ fault. fault ≢ CommandFault.Unwritable) }
 {
     if located.fault == TowerFault::Memory {
         return Err(CommandFault::Memory);
     }
-    let Ok(found) = lint_fault(alloc, file, located.fault, located.span) else {
+    let Ok(found) = lint_fault(alloc, file.text, located.fault, located.span) else {
         return Err(CommandFault::Memory);
     };
-    let Ok(sources) = sources_of(alloc, &[name], &[file]) else {
+    let Ok(sources) = sources_of(alloc, &[file.name], &[file.text]) else {
         return Err(CommandFault::Memory);
     };
     tell(alloc, asked, &sources, &found, denied)
@@ -212,7 +211,7 @@ fn findings<'a, A: AllocGlobal + Wait>(
     slices: &[&[u8]],
 ) -> Result<Findings, CommandFault<'a>>
     requires most { length slices.now ≤ 256 }
-    ensures found { IfOk result (λ found. AreFindingsOfRun tower.now (chosen_field asked.now.moments) (map (λ slice. slice.now) slices.entry.now) found.traces.items) }
+    ensures found { IfOk result (λ found. AreFindingsOfRun tower.now asked.now.moments (map (λ slice. slice.now) slices.entry.now) found.traces.items) }
     ensures quiet { IfErr result (λ fault. fault ≢ CommandFault.Unwritable) }
 {
     let alloc = rt.alloc();
@@ -222,7 +221,7 @@ fn findings<'a, A: AllocGlobal + Wait>(
             unused: Vec::new(alloc),
         });
     }
-    match lint(rt, alloc, tower, slices, field_of(asked.moments)) {
+    match lint(rt, alloc, tower, slices, asked.moments) {
         Ok(found) => Ok(found),
         Err(fault) => Err(CommandFault::of_run(fault)),
     }
@@ -238,20 +237,19 @@ fn slices_of(alloc: Global, texts: &[Vec<u8>]) -> Result<Vec<&[u8]>, AllocError>
     Ok(slices)
 }
 
-/// The files with their names, and the file of this name after them.
+/// The files with their names, and this file after them.
 fn with_file<'t>(
     alloc: Global,
     names: &[&'t str],
     slices: &[&'t [u8]],
-    name: &'t str,
-    file: &'t [u8],
+    file: &SourceText<'t>,
 ) -> Result<Vec<SourceText<'t>>, AllocError>
     requires { length names.now ≡ length slices.now }
     ensures many { IfOk result (λ sources. length sources.items ≡ length slices.entry.now + 1) }
-    ensures names { IfOk result (λ sources. map (λ source. source.name.now) sources.items ≡ map (λ name. name.now) names.entry.now ++ name.entry.now ∷ []) }
+    ensures names { IfOk result (λ sources. map (λ source. source.name.now) sources.items ≡ map (λ name. name.now) names.entry.now ++ file.now.name.now ∷ []) }
 {
     let mut sources = sources_of(alloc, names, slices)?;
-    sources.push(SourceText { name, text: file })?;
+    sources.push(*file)?;
     Ok(sources)
 }
 

@@ -1,6 +1,6 @@
 //! What a wrong read of a register might have returned, by its book.
 
-ghost use Rattle.std.specs.Prelude.{◌≡◌, IfOk, length, map, Vec};
+ghost use Rattle.std.specs.Prelude.{◌≡◌, IfOk, map, Vec};
 ghost use Rattle.std.specs.declared.alloc.Global.{Global as AGlobal};
 ghost use Rattle.std.specs.List.{slice_get};
 ghost use Rattle.intervals.specs.Table.{ops_in_slots};
@@ -13,29 +13,23 @@ ghost use Rattle.records.specs.Explained.{AreAllowed, IsAllowedBy, IsAllowedIn, 
 use crate::allowed::{Allowed, allowed_by};
 use intervals::{Claim, Kind, Op, RegId, Value};
 use register_book::{Witness, WritesAround, writes_around};
-use report::Finding;
+use report::{Finding, RunFindings};
 use shards::Closed;
 use std::alloc::{AllocError, Global};
 use tower_file::Tower;
 
 /// For each register what its wrong read might have returned; nothing where none is wrong.
-pub fn explain_all(
-    alloc: Global,
-    tower: &Tower,
-    closed: &Closed,
-    findings: &[Finding],
-) -> Result<Vec<Vec<Allowed>>, AllocError>
-    requires many { length findings.now ≡ length tower.now.registers }
-    ensures { IfOk result (λ all. AreAllowed tower.now closed.now 0 findings.now (map (λ (allowed : Vec AnAllowed AGlobal). allowed.items) all.items)) }
+pub fn explain_all(alloc: Global, findings: &RunFindings) -> Result<Vec<Vec<Allowed>>, AllocError>
+    ensures { IfOk result (λ all. AreAllowed findings.now.tower.now findings.now.run.now.closed 0 findings.now.each.now (map (λ (allowed : Vec AnAllowed AGlobal). allowed.items) all.items)) }
 {
     let mut all = Vec::new(alloc);
-    for number in 0..tower.len() {
+    for number in 0..findings.tower.len() {
         let allowed = explain(
             alloc,
-            tower,
-            closed,
+            findings.tower,
+            &findings.run.closed,
             RegId(number as u32),
-            &findings[number],
+            &findings.each[number],
         )?;
         all.push(allowed)?;
     }

@@ -1,6 +1,6 @@
 //! The records of a run, in JSON or in EDN: one a line, for programs to read.
 //!
-//!     write_records(alloc, &form, status, &tower, &run, &texts, None, &mut out)?
+//!     write_records(alloc, &form, &tower, &run, &texts, &mut out)?
 //!     push_notice(alloc, &mut text, &tower, &notice)?     // one record, of what a watcher is told
 //!
 //! `specs/Run.antt` says which records a run has, `specs/Notice.antt` which a notice has, `specs/Symbol.antt` what a

@@ -16,6 +16,7 @@ use crate::value::holder_token;
 use intervals::{Holder, Refusal};
 use logs::{Broken, Code};
 use places::Places;
+use shards::Answer;
 use std::alloc::AllocError;
 
 /// Adds the record of a refusal.
@@ -157,14 +158,13 @@ pub fn add_answer<'a>(
     feeder: u64,
     event: u64,
     name: &'a [u8],
-    holds: bool,
-    operations: u64,
+    answer: &Answer,
 ) -> Result<(), AllocError>
-    ensures { OnOk result (symbols_of tokens.new.items ≡ symbols_of tokens.old.items ++ answer_symbols places.now feeder event name.now holds operations) }
+    ensures { OnOk result (symbols_of tokens.new.items ≡ symbols_of tokens.old.items ++ answer_symbols places.now feeder event name.now answer.now.holds answer.now.operations) }
 {
     add_type(tokens, "answer")?;
     add_place(tokens, feeder, event)?;
-    add_answer_fields(tokens, name, holds, operations)?;
+    add_answer_fields(tokens, name, answer.holds, answer.operations)?;
     add_spot(tokens, places.locate(feeder, event))?;
     tokens.push(RecordToken::EndRecord)?;
     Ok(())

@@ -15,23 +15,29 @@ use register_book::Witness;
 use report::Finding;
 use std::alloc::AllocError;
 
-/// Adds the record of a register: its number, the name of its level, its name, what is found of it, whether it is to
-/// blame, and what a wrong read might have returned.
+/// How a record names a register: by its number, the name of its level, and its name.
+#[derive(Clone, Copy)]
+pub struct RegisterNames<'a> {
+    pub number: u64,
+    pub level: &'a [u8],
+    pub name: &'a [u8],
+}
+
+/// Adds the record of a register: its names, what is found of it, whether it is to blame, and what a wrong read might
+/// have returned.
 #[tactic(auto, unfolding(crate::specs::Register::register_symbols))]
 pub fn add_register<'a>(
     tokens: &mut Vec<RecordToken<'a>>,
     places: &Places,
-    number: u64,
-    level: &'a [u8],
-    name: &'a [u8],
+    names: &RegisterNames<'a>,
     finding: &Finding<'a>,
     culprit: bool,
     allowed: &[Allowed],
 ) -> Result<(), AllocError>
-    ensures { OnOk result (symbols_of tokens.new.items ≡ symbols_of tokens.old.items ++ register_symbols places.now number level.now name.now finding.now culprit allowed.now) }
+    ensures { OnOk result (symbols_of tokens.new.items ≡ symbols_of tokens.old.items ++ register_symbols places.now names.now.number names.now.level.now names.now.name.now finding.now culprit allowed.now) }
 {
     add_type(tokens, "register")?;
-    add_names(tokens, number, level, name)?;
+    add_names(tokens, names.number, names.level, names.name)?;
     add_verdict(tokens, finding)?;
     add_blame(tokens, finding.operations, culprit)?;
     add_found(tokens, places, allowed, &finding.witness)

@@ -5,7 +5,7 @@ ghost use Rattle.std.specs.declared.alloc.Global.{Global as AGlobal};
 ghost use Rattle.std.specs.Io.KnownBytes.{Appends};
 ghost use Rattle.std.specs.List.{list_any};
 ghost use Rattle.shards.specs.Closing.{book_of};
-ghost use Rattle.report.specs.Finding.{IsOfTower, fails_of};
+ghost use Rattle.report.specs.Finding.{IsOfTower};
 ghost use Rattle.report.specs.Order.{IsAsked};
 ghost use Rattle.report.specs.Summary.{is_failing};
 ghost use Rattle.records.specs.declared.allowed.Allowed.{Allowed as AnAllowed};
@@ -19,22 +19,22 @@ use crate::ends::{Totals, add_head, add_last, add_order};
 use crate::explained::explain_all;
 use crate::line::{Notation, push_record};
 use crate::log::{add_answer, add_placed_break, add_placed_refusal};
-use crate::register::add_register;
+use crate::register::{RegisterNames, add_register};
 use crate::token::RecordToken;
 use intervals::{OpId, RegId};
 use logs::{Broken, Line, Log, Run, What};
 use phrases::name_of;
 use places::Places;
 use report::{
-    Finding, ReportFault, count_broken, count_failing, count_operations, count_refused,
-    culprits_in, failing_of, find_all, is_culprit, level_name, order_of,
+    Finding, ReportFault, RunFindings, count_broken, count_failing, count_operations,
+    count_refused, culprits_in, failing_of, find_all, is_culprit, level_name, order_of,
 };
 use shards::Closed;
 use std::alloc::{AllocError, Global};
 use std::io::Write;
 use tower_file::Tower;
 
-/// How the records of a run are written, and what its first record names.
+/// How the records of a run are written, and what they say beside it.
 #[derive(Clone, Copy)]
 pub struct Form<'a> {
     pub notation: Notation,
@@ -46,27 +46,28 @@ pub struct Form<'a> {
     pub traces: &'a [&'a str],
     /// The word of the field that has the moments.
     pub moments: &'static str,
+    /// The register whose order has a record, where one is asked for.
+    pub order: Option<RegId>,
+    pub status: u8,
 }
 
-/// Writes the records of a run over the registers of a tower, with the order of a register where one is asked for, in one
-/// write and one flush. The run and the register have to be of the tower. The texts are those of the traces, by number,
-/// and give the lines and the bytes of elements.
+/// Writes the records of a run over the registers of a tower, in one write and one flush. The run and the register whose
+/// order is asked for have to be of the tower. The texts are those of the traces, by number, and give the lines and the
+/// bytes of elements.
 pub fn write_records<'x, W: Write>(
     alloc: Global,
     form: &Form,
-    status: u8,
     tower: &'x Tower,
     run: &Run<'x>,
     texts: &[Vec<u8>],
-    order: Option<RegId>,
     out: &mut W,
 ) -> Result<(), ReportFault>
     requires of_tower { IsOfTower tower.now run.now.closed }
-    requires order { IfSome order (λ id. id.0 < length tower.now.registers) }
-    ensures records { OnOk result ((text : List ℕ) × IsTextOfRecords form.now.notation (names_of form.now) form.now.only_failing status tower.now run.now.closed run.now.logs.items order (map (λ text. text.items) texts.now) text × Appends (W.contents out.old) (W.contents out.new) text) }
+    requires order { IfSome form.now.order (λ id. id.0 < length tower.now.registers) }
+    ensures records { OnOk result ((text : List ℕ) × IsTextOfRecords form.now.notation (names_of form.now) form.now.only_failing form.now.status tower.now run.now.closed run.now.logs.items form.now.order (map (λ text. text.items) texts.now) text × Appends (W.contents out.old) (W.contents out.new) text) }
     ensures memory { result ≡ Err ReportFault.Memory → out.new ≡ out.old }
 {
-    let text = records_text(alloc, form, status, tower, run, texts, order)?;
+    let text = records_text(alloc, form, tower, run, texts)?;
     out.write_all(&text)?;
     out.flush()?;
     Ok(())
@@ -75,35 +76,39 @@ pub fn write_records<'x, W: Write>(
 fn records_text<'x>(
     alloc: Global,
     form: &Form,
-    status: u8,
     tower: &'x Tower,
     run: &Run<'x>,
     texts: &[Vec<u8>],
-    order: Option<RegId>,
 ) -> Result<Vec<u8>, ReportFault>
     requires of_tower { IsOfTower tower.now run.now.closed }
-    requires order { IfSome order (λ id. id.0 < length tower.now.registers) }
-    ensures records { IfOk result (λ text. IsTextOfRecords form.now.notation (names_of form.now) form.now.only_failing status tower.now run.now.closed run.now.logs.items order (map (λ text. text.items) texts.now) text.items) }
+    requires order { IfSome form.now.order (λ id. id.0 < length tower.now.registers) }
+    ensures records { IfOk result (λ text. IsTextOfRecords form.now.notation (names_of form.now) form.now.only_failing form.now.status tower.now run.now.closed run.now.logs.items form.now.order (map (λ text. text.items) texts.now) text.items) }
     ensures memory { IfErr result (λ fault. fault ≡ ReportFault.Memory) }
 {
-    let findings = find_all(alloc, tower, &run.closed)?;
-    let allowed = explain_all(alloc, tower, &run.closed, &findings)?;
-    let places = places_of(alloc, texts, &findings, &run.logs)?;
-    text_of(
-        alloc, form, status, tower, run, &places, order, &findings, &allowed,
-    )
+    let each = find_all(alloc, tower, &run.closed)?;
+    let failing = failing_of(alloc, &each)?;
+    let culprits = culprits_in(alloc, tower, &failing)?;
+    let findings = RunFindings {
+        tower,
+        run,
+        each: &each,
+        failing: &failing,
+        culprits: &culprits,
+    };
+    let allowed = explain_all(alloc, &findings)?;
+    let places = places_of(alloc, texts, &findings)?;
+    text_of(alloc, form, &findings, &places, &allowed)
 }
 
 /// The places of elements in the texts; none where no record names an element.
 fn places_of<'t>(
     alloc: Global,
     texts: &'t [Vec<u8>],
-    findings: &[Finding],
-    logs: &[Log],
+    findings: &RunFindings,
 ) -> Result<Places<'t>, AllocError>
-    ensures { IfOk result (λ places. AreRunPlaces (map (λ text. text.items) texts.entry.now) findings.now logs.now places) }
+    ensures { IfOk result (λ places. AreRunPlaces (map (λ text. text.items) texts.entry.now) findings.now.each.now findings.now.run.now.logs.items places) }
 {
-    if names_elements(findings, logs) {
+    if names_elements(findings.each, &findings.run.logs) {
         Places::of(alloc, texts)
     } else {
         Ok(Places::unknown(alloc, texts))
@@ -141,67 +146,47 @@ fn says_anything(log: &Log) -> bool
     log.lines.first().is_some() || log.broken.is_some()
 }
 
-/// The text of the records, by what is found of each register and what its wrong read might have returned.
-fn text_of<'x>(
+/// The text of the records, by what is found of the run and what the wrong read of each register might have returned.
+fn text_of(
     alloc: Global,
     form: &Form,
-    status: u8,
-    tower: &'x Tower,
-    run: &Run<'x>,
+    findings: &RunFindings,
     places: &Places,
-    order: Option<RegId>,
-    findings: &[Finding<'x>],
     allowed: &[Vec<Allowed>],
 ) -> Result<Vec<u8>, ReportFault>
-    requires there { IfSome order (λ id. IsSome (book_of run.now.closed id.0)) }
-    requires many { length findings.now ≡ length tower.now.registers }
-    requires each { length allowed.now ≡ length findings.now }
-    ensures text { IfOk result (λ text. (asked : Option (RegId × Option (List OpId))) × IsAsked run.now.closed order asked
-        × (text.items ≡ run_lines places.now form.now.notation (names_of form.now) form.now.only_failing status tower.now findings.now (map (λ (allowed : Vec AnAllowed AGlobal). allowed.items) allowed.now) run.now.logs.items asked)) }
+    requires there { IfSome form.now.order (λ id. IsSome (book_of findings.now.run.now.closed id.0)) }
+    requires each { length allowed.now ≡ length findings.now.each.now }
+    ensures text { IfOk result (λ text. (asked : Option (RegId × Option (List OpId))) × IsAsked findings.now.run.now.closed form.now.order asked
+        × (text.items ≡ run_lines places.now form.now.notation (names_of form.now) form.now.only_failing form.now.status findings.now.tower.now findings.now.each.now (map (λ (allowed : Vec AnAllowed AGlobal). allowed.items) allowed.now) findings.now.run.now.logs.items asked)) }
     ensures memory { IfErr result (λ fault. fault ≡ ReportFault.Memory) }
 {
-    let failing = failing_of(alloc, findings)?;
-    let totals = totals_of(alloc, tower, findings, &failing, &run.logs)?;
+    let totals = totals_of(findings);
     let writer = RecordWriter {
         alloc,
         notation: form.notation,
+        only_failing: form.only_failing,
         places,
     };
     let mut text = Vec::new(alloc);
-    writer.push_head(&mut text, form, tower)?;
-    writer.push_registers(
-        &mut text,
-        form.only_failing,
-        tower,
-        findings,
-        &failing,
-        allowed,
-    )?;
-    writer.push_logs(&mut text, tower, &run.logs)?;
-    writer.push_asked(&mut text, tower, &run.closed, order)?;
-    writer.push_last(&mut text, status, &totals)?;
+    writer.push_head(&mut text, form, findings.tower)?;
+    writer.push_registers(&mut text, findings, allowed)?;
+    writer.push_logs(&mut text, findings.tower, &findings.run.logs)?;
+    writer.push_asked(&mut text, findings.tower, &findings.run.closed, form.order)?;
+    writer.push_last(&mut text, form.status, &totals)?;
     Ok(text)
 }
 
-fn totals_of(
-    alloc: Global,
-    tower: &Tower,
-    findings: &[Finding],
-    failing: &[bool],
-    logs: &[Log],
-) -> Result<Totals, AllocError>
-    requires failing { failing.now ≡ fails_of findings.now }
-    ensures { IfOk result (λ totals. totals ≡ totals_of tower.now findings.now logs.now) }
+fn totals_of(findings: &RunFindings) -> Totals
+    ensures { result ≡ totals_of findings.now.tower.now findings.now.each.now findings.now.run.now.logs.items }
 {
-    let culprits = culprits_in(alloc, tower, failing)?;
-    Ok(Totals {
-        registers: tower.len() as u64,
-        failing: count_failing(findings) as u64,
-        culprits: culprits.len() as u64,
-        operations: at_most_u64(count_operations(findings)),
-        refused: at_most_u64(count_refused(logs)),
-        broken: count_broken(logs) as u64,
-    })
+    Totals {
+        registers: findings.tower.len() as u64,
+        failing: count_failing(findings.each) as u64,
+        culprits: findings.culprits.len() as u64,
+        operations: at_most_u64(count_operations(findings.each)),
+        refused: at_most_u64(count_refused(&findings.run.logs)),
+        broken: count_broken(&findings.run.logs) as u64,
+    }
 }
 
 /// The number, or 2^64 - 1 where it is greater.
@@ -211,11 +196,13 @@ fn at_most_u64(number: u128) -> u64
     number.min(u128::from(u64::MAX)) as u64
 }
 
-/// What writes records: the memory that it takes, the notation, and where elements are.
+/// What writes records: the memory that it takes, the notation, whether only the registers that fail have a record, and
+/// where elements are.
 #[derive(Clone, Copy)]
 struct RecordWriter<'p, 't> {
     alloc: Global,
     notation: Notation,
+    only_failing: bool,
     places: &'p Places<'t>,
 }
 
@@ -242,27 +229,21 @@ impl RecordWriter<'_, '_> {
     }
 
     /// Adds the records of the registers, by number.
-    fn push_registers<'x>(
+    fn push_registers(
         self,
         text: &mut Vec<u8>,
-        only_failing: bool,
-        tower: &'x Tower,
-        findings: &[Finding<'x>],
-        failing: &[bool],
+        findings: &RunFindings,
         allowed: &[Vec<Allowed>],
     ) -> Result<(), AllocError>
-        requires many { length findings.now ≡ length tower.now.registers }
-        requires each { length allowed.now ≡ length findings.now }
-        ensures { OnOk result (text.new.items ≡ text.old.items ++ lines_of self.entry.notation (registers_records self.entry.places.now tower.now failing.now only_failing 0 findings.now (map (λ (allowed : Vec AnAllowed AGlobal). allowed.items) allowed.now))) }
+        requires each { length allowed.now ≡ length findings.now.each.now }
+        ensures { OnOk result (text.new.items ≡ text.old.items ++ lines_of self.entry.notation (registers_records self.entry.places.now findings.now.tower.now findings.now.failing.now self.entry.only_failing 0 findings.now.each.now (map (λ (allowed : Vec AnAllowed AGlobal). allowed.items) allowed.now))) }
     {
-        for number in 0..tower.len() {
+        for number in 0..findings.tower.len() {
             self.push_one(
                 text,
-                only_failing,
-                tower,
-                failing,
+                findings,
                 number,
-                &findings[number],
+                &findings.each[number],
                 &allowed[number],
             )?;
         }
@@ -273,18 +254,16 @@ impl RecordWriter<'_, '_> {
     fn push_one<'x>(
         self,
         text: &mut Vec<u8>,
-        only_failing: bool,
-        tower: &'x Tower,
-        failing: &[bool],
+        findings: &RunFindings<'_, 'x>,
         number: usize,
         finding: &Finding<'x>,
         allowed: &[Allowed],
     ) -> Result<(), AllocError>
         requires few { number < 65536 }
-        ensures { OnOk result (text.new.items ≡ text.old.items ++ lines_of self.entry.notation (one_record self.entry.places.now tower.now failing.now only_failing number finding.now allowed.now)) }
+        ensures { OnOk result (text.new.items ≡ text.old.items ++ lines_of self.entry.notation (one_record self.entry.places.now findings.now.tower.now findings.now.failing.now self.entry.only_failing number finding.now allowed.now)) }
     {
-        if !only_failing || finding.witness.is_some() {
-            self.push_register(text, tower, failing, number, finding, allowed)
+        if !self.only_failing || finding.witness.is_some() {
+            self.push_register(text, findings, number, finding, allowed)
         } else {
             Ok(())
         }
@@ -294,31 +273,27 @@ impl RecordWriter<'_, '_> {
     fn push_register<'x>(
         self,
         text: &mut Vec<u8>,
-        tower: &'x Tower,
-        failing: &[bool],
+        findings: &RunFindings<'_, 'x>,
         number: usize,
         finding: &Finding<'x>,
         allowed: &[Allowed],
     ) -> Result<(), AllocError>
         requires few { number < 65536 }
-        ensures { OnOk result (text.new.items ≡ text.old.items ++ lines_of self.entry.notation (register_record self.entry.places.now tower.now failing.now number finding.now allowed.now)) }
+        ensures { OnOk result (text.new.items ≡ text.old.items ++ lines_of self.entry.notation (register_record self.entry.places.now findings.now.tower.now findings.now.failing.now number finding.now allowed.now)) }
     {
         let id = RegId(number as u32);
+        let tower = findings.tower;
         let (Some(name), Some(level)) = (tower.name(id), tower.level_of(id)) else {
             return Ok(());
         };
-        let culprit = is_culprit(tower, failing, id);
-        let mut tokens = Vec::new(self.alloc);
-        add_register(
-            &mut tokens,
-            self.places,
-            number as u64,
-            level_name(tower, level),
+        let culprit = is_culprit(tower, findings.failing, id);
+        let names = RegisterNames {
+            number: number as u64,
+            level: level_name(tower, level),
             name,
-            finding,
-            culprit,
-            allowed,
-        )?;
+        };
+        let mut tokens = Vec::new(self.alloc);
+        add_register(&mut tokens, self.places, &names, finding, culprit, allowed)?;
         self.push(text, &tokens)
     }
 
@@ -380,8 +355,7 @@ impl RecordWriter<'_, '_> {
                 feeder as u64,
                 line.event,
                 name_of(tower, *register),
-                answer.holds,
-                answer.operations,
+                answer,
             )?,
         }
         self.push(text, &tokens)

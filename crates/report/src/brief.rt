@@ -4,12 +4,13 @@ ghost use Rattle.std.specs.Prelude.{◌≡◌, ◌++◌, Err, IfOk, OnOk, List, 
 ghost use Rattle.std.specs.Io.KnownBytes.{Appends};
 ghost use Rattle.report.specs.Culprit.{culprits_of};
 ghost use Rattle.report.specs.Finding.{IsOfTower};
-ghost use Rattle.report.specs.Summary.{IsSummary, amiss_text, culprit_count_text, breaks_text, break_line, breaks_at, broken_of, broken_text, counted, failed_text, failing_lines, failing_text, first_line, held_text, holding_text, holds_as, idle_count_text, idle_of, idle_text, is_broken, is_failing, is_idle, kind_text, kinds_text, name_text, names_text, operations, over_text, refusals_text, same_kind};
+ghost use Rattle.report.specs.Summary.{IsSummary, amiss_text, culprit_count_text, breaks_text, break_line, breaks_at, broken_of, broken_text, counted, failed_text, failing_lines, failing_text, first_line, held_text, holding_text, holds_as, idle_count_text, idle_of, idle_text, is_broken, is_failing, is_idle, kind_text, kinds_text, name_text, names_text, operations, over_text, refusals_text, same_kind, summary_text};
 
 use crate::culprit::culprits_in;
 use crate::failing::{at_most, others_in, push_blamed, push_more, push_others};
 use crate::fault::ReportFault;
 use crate::finding::{Finding, failing_of, find_all};
+use crate::findings::RunFindings;
 use crate::notes::push_broken;
 use crate::refused::{count_refused, push_refused};
 use crate::text::write_whole;
@@ -25,10 +26,10 @@ const NAMED: usize = 10;
 
 /// Writes the summary of a run over the registers of a tower, in one write and one flush: at most 56 lines, however
 /// many registers fail and traces break. The run has to be of the tower.
-pub fn summary<W: Write>(
+pub fn summary<'x, W: Write>(
     alloc: Global,
-    tower: &Tower,
-    run: &Run,
+    tower: &'x Tower,
+    run: &Run<'x>,
     out: &mut W,
 ) -> Result<(), ReportFault>
     requires of_tower { IsOfTower tower.now run.now.closed }
@@ -39,13 +40,22 @@ pub fn summary<W: Write>(
     write_whole(&text, out)
 }
 
-fn summary_text(alloc: Global, tower: &Tower, run: &Run) -> Result<String, AllocError>
+fn summary_text<'x>(alloc: Global, tower: &'x Tower, run: &Run<'x>) -> Result<String, AllocError>
     requires of_tower { IsOfTower tower.now run.now.closed }
     ensures { IfOk result (λ text. IsSummary tower.now run.now.closed run.now.logs.items (string_bytes text)) }
 {
-    let findings = find_all(alloc, tower, &run.closed)?;
+    let each = find_all(alloc, tower, &run.closed)?;
+    let failing = failing_of(alloc, &each)?;
+    let culprits = culprits_in(alloc, tower, &failing)?;
+    let findings = RunFindings {
+        tower,
+        run,
+        each: &each,
+        failing: &failing,
+        culprits: &culprits,
+    };
     let mut text = String::new(alloc);
-    push_registers(&mut text, alloc, tower, &findings, &run.logs)?;
+    push_registers(&mut text, alloc, &findings)?;
     push_refused(&mut text, &run.logs)?;
     push_breaks(&mut text, alloc, &run.logs)?;
     Ok(text)
@@ -55,48 +65,31 @@ fn summary_text(alloc: Global, tower: &Tower, run: &Run) -> Result<String, Alloc
 fn push_registers(
     text: &mut String,
     alloc: Global,
-    tower: &Tower,
-    findings: &[Finding],
-    logs: &[Log],
+    findings: &RunFindings,
 ) -> Result<(), AllocError>
-    ensures { OnOk result (string_bytes text.new ≡ string_bytes text.old ++ first_line tower.now findings.now (length (culprits_of tower.now findings.now)) logs.now ++ failing_text tower.now findings.now ++ holding_text tower.now findings.now) }
+    ensures { OnOk result (string_bytes text.new ≡ string_bytes text.old ++ first_line findings.now.tower.now findings.now.each.now (length (culprits_of findings.now.tower.now findings.now.each.now)) findings.now.run.now.logs.items ++ failing_text findings.now.tower.now findings.now.each.now ++ holding_text findings.now.tower.now findings.now.each.now) }
 {
-    let failing = failing_of(alloc, findings)?;
-    let culprits = culprits_in(alloc, tower, &failing)?;
-    push_first(text, tower, findings, culprits.len(), logs)?;
-    push_failing(text, alloc, tower, findings, &failing, &culprits)?;
-    push_holding(text, alloc, tower, findings)
+    push_first(text, findings)?;
+    push_failing(text, alloc, findings)?;
+    push_holding(text, alloc, findings.tower, findings.each)
 }
 
 /// The lines of the registers that fail: the culprits, and then the others.
-fn push_failing(
-    text: &mut String,
-    alloc: Global,
-    tower: &Tower,
-    findings: &[Finding],
-    failing: &[bool],
-    culprits: &[RegId],
-) -> Result<(), AllocError>
-    ensures { OnOk result (string_bytes text.new ≡ string_bytes text.old ++ failing_lines tower.now findings.now failing.now culprits.now) }
+fn push_failing(text: &mut String, alloc: Global, findings: &RunFindings) -> Result<(), AllocError>
+    ensures { OnOk result (string_bytes text.new ≡ string_bytes text.old ++ failing_text findings.now.tower.now findings.now.each.now) }
 {
-    push_blamed(text, tower, findings, culprits)?;
-    let others = others_in(alloc, tower, failing)?;
-    push_others(text, tower, findings, failing, &others)
+    push_blamed(text, findings)?;
+    let others = others_in(alloc, findings.tower, findings.failing)?;
+    push_others(text, findings, &others)
 }
 
-fn push_first(
-    text: &mut String,
-    tower: &Tower,
-    findings: &[Finding],
-    blamed: usize,
-    logs: &[Log],
-) -> Result<(), AllocError>
-    ensures { OnOk result (string_bytes text.new ≡ string_bytes text.old ++ first_line tower.now findings.now blamed logs.now) }
+fn push_first(text: &mut String, findings: &RunFindings) -> Result<(), AllocError>
+    ensures { OnOk result (string_bytes text.new ≡ string_bytes text.old ++ first_line findings.now.tower.now findings.now.each.now (length (culprits_of findings.now.tower.now findings.now.each.now)) findings.now.run.now.logs.items) }
 {
-    push_failed(text, count_failing(findings), tower.len())?;
-    push_blamed_count(text, blamed)?;
-    push_over(text, findings, logs)?;
-    push_amiss(text, logs)
+    push_failed(text, count_failing(findings.each), findings.tower.len())?;
+    push_blamed_count(text, findings.culprits.len())?;
+    push_over(text, findings.each, &findings.run.logs)?;
+    push_amiss(text, &findings.run.logs)
 }
 
 fn push_failed(text: &mut String, failing: usize, many: usize) -> Result<(), AllocError>

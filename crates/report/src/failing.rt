@@ -5,6 +5,7 @@ ghost use Rattle.report.specs.Failing.{blamed_line, culprit_text, first_failing,
 
 use crate::culprit::is_culprit;
 use crate::finding::{Finding, fails};
+use crate::findings::RunFindings;
 use crate::listing::level_name;
 use intervals::RegId;
 use phrases::{kind_word, name_of, push_fault, push_printed};
@@ -15,29 +16,22 @@ use tower_file::Tower;
 const LINES: usize = 20;
 
 /// The lines of the culprits.
-pub fn push_blamed(
-    text: &mut String,
-    tower: &Tower,
-    findings: &[Finding],
-    culprits: &[RegId],
-) -> Result<(), AllocError>
-    ensures { OnOk result (string_bytes text.new ≡ string_bytes text.old ++ lines_text (blamed_line tower.now findings.now) culprits.now) }
+pub fn push_blamed(text: &mut String, findings: &RunFindings) -> Result<(), AllocError>
+    ensures { OnOk result (string_bytes text.new ≡ string_bytes text.old ++ lines_text (blamed_line findings.now.tower.now findings.now.each.now) findings.now.culprits.now) }
 {
-    push_blamed_lines(text, tower, findings, at_most(culprits, LINES))?;
-    push_more_lines(text, culprits.len())
+    push_blamed_lines(text, findings, at_most(findings.culprits, LINES))?;
+    push_more_lines(text, findings.culprits.len())
 }
 
 /// The lines of the registers that fail and are no culprits.
 pub fn push_others(
     text: &mut String,
-    tower: &Tower,
-    findings: &[Finding],
-    failing: &[bool],
+    findings: &RunFindings,
     others: &[RegId],
 ) -> Result<(), AllocError>
-    ensures { OnOk result (string_bytes text.new ≡ string_bytes text.old ++ lines_text (other_line tower.now findings.now failing.now) others.now) }
+    ensures { OnOk result (string_bytes text.new ≡ string_bytes text.old ++ lines_text (other_line findings.now.tower.now findings.now.each.now findings.now.failing.now) others.now) }
 {
-    push_other_lines(text, tower, findings, failing, at_most(others, LINES))?;
+    push_other_lines(text, findings, at_most(others, LINES))?;
     push_more_lines(text, others.len())
 }
 
@@ -94,28 +88,22 @@ pub fn push_more(
 
 fn push_blamed_lines(
     text: &mut String,
-    tower: &Tower,
-    findings: &[Finding],
+    findings: &RunFindings,
     ids: &[RegId],
 ) -> Result<(), AllocError>
-    ensures { OnOk result (string_bytes text.new ≡ string_bytes text.old ++ flat_map (blamed_line tower.now findings.now) ids.now) }
+    ensures { OnOk result (string_bytes text.new ≡ string_bytes text.old ++ flat_map (blamed_line findings.now.tower.now findings.now.each.now) ids.now) }
 {
     for id in ids {
-        push_blamed_line(text, tower, findings, *id)?;
+        push_blamed_line(text, findings, *id)?;
     }
     Ok(())
 }
 
-fn push_blamed_line(
-    text: &mut String,
-    tower: &Tower,
-    findings: &[Finding],
-    id: RegId,
-) -> Result<(), AllocError>
-    ensures { OnOk result (string_bytes text.new ≡ string_bytes text.old ++ blamed_line tower.now findings.now id) }
+fn push_blamed_line(text: &mut String, findings: &RunFindings, id: RegId) -> Result<(), AllocError>
+    ensures { OnOk result (string_bytes text.new ≡ string_bytes text.old ++ blamed_line findings.now.tower.now findings.now.each.now id) }
 {
-    match findings.get(id.0 as usize) {
-        Some(finding) => push_blamed_text(text, tower, id, finding),
+    match findings.each.get(id.0 as usize) {
+        Some(finding) => push_blamed_text(text, findings.tower, id, finding),
         None => Ok(()),
     }
 }
@@ -144,30 +132,22 @@ fn push_reason(text: &mut String, finding: &Finding) -> Result<(), AllocError>
 
 fn push_other_lines(
     text: &mut String,
-    tower: &Tower,
-    findings: &[Finding],
-    failing: &[bool],
+    findings: &RunFindings,
     ids: &[RegId],
 ) -> Result<(), AllocError>
-    ensures { OnOk result (string_bytes text.new ≡ string_bytes text.old ++ flat_map (other_line tower.now findings.now failing.now) ids.now) }
+    ensures { OnOk result (string_bytes text.new ≡ string_bytes text.old ++ flat_map (other_line findings.now.tower.now findings.now.each.now findings.now.failing.now) ids.now) }
 {
     for id in ids {
-        push_other_line(text, tower, findings, failing, *id)?;
+        push_other_line(text, findings, *id)?;
     }
     Ok(())
 }
 
-fn push_other_line(
-    text: &mut String,
-    tower: &Tower,
-    findings: &[Finding],
-    failing: &[bool],
-    id: RegId,
-) -> Result<(), AllocError>
-    ensures { OnOk result (string_bytes text.new ≡ string_bytes text.old ++ other_line tower.now findings.now failing.now id) }
+fn push_other_line(text: &mut String, findings: &RunFindings, id: RegId) -> Result<(), AllocError>
+    ensures { OnOk result (string_bytes text.new ≡ string_bytes text.old ++ other_line findings.now.tower.now findings.now.each.now findings.now.failing.now id) }
 {
-    match findings.get(id.0 as usize) {
-        Some(finding) => push_other_text(text, tower, failing, id, finding),
+    match findings.each.get(id.0 as usize) {
+        Some(finding) => push_other_text(text, findings.tower, findings.failing, id, finding),
         None => Ok(()),
     }
 }

@@ -4,6 +4,7 @@
 //!     report(rt, alloc, &tower, &run, None, &mut out)?
 //!     summary(alloc, &tower, &run, &mut out)?        // what the report says, in at most 56 lines
 //!     culprits(alloc, &tower, &run.closed)?          // the registers that fail while their parts hold
+//!     let each = find_all(alloc, &tower, &run.closed)?   // what is found of each register
 //!     standing_counts(alloc, &tower, &run.closed)?   // how many operations stand in all, and the least in one
 //!     tower_text(alloc, &tower)?                     // a line for each register of a tower
 //!
@@ -19,6 +20,7 @@ mod culprit;
 mod failing;
 mod fault;
 mod finding;
+mod findings;
 pub mod laws;
 mod listing;
 mod notes;
@@ -32,6 +34,7 @@ pub use counts::{Counts, standing_counts};
 pub use culprit::{culprits, culprits_in, is_culprit};
 pub use fault::ReportFault;
 pub use finding::{Finding, failing_of, find_all};
+pub use findings::RunFindings;
 pub use listing::{level_name, tower_text};
 pub use notes::push_broken;
 pub use order::order_of;

@@ -3,7 +3,6 @@ use Rattle.std.proofs.Common.{◌≡◌, ℕ, List, map, Option, Some, None, rul
 use Rattle.std.specs.Prelude.{IfSome}
 use Rattle.std.specs.Io.KnownBytes.{Appends}
 use Rattle.intervals.specs.declared.operation.RegId.{RegId}
-use Rattle.jepsen_form.specs.declared.item.MomentField.{MomentField}
 use Rattle.tower_file.specs.Contents.{TowerModel}
 use Rattle.tower_file.specs.Tower.{IsTowerOf}
 use Rattle.shards.specs.Closing.{ClosedShard}
@@ -11,23 +10,21 @@ use Rattle.logs.specs.declared.log.Log.{Log}
 use Rattle.feeders.specs.Readers.{AreReadOf}
 use Rattle.logs.specs.Run.{IsRun}
 use Rattle.words.specs.Words.{AskedShow}
-use Rattle.command_parts.specs.Job.{chosen_field}
 use Rattle.command_parts.specs.Tower.{IsNamed}
 use Rattle.command_parts.specs.Status.{IsStatus}
 use Rattle.show_command.specs.Shown.{IsShown}
 
 -- what `show` has written; `AreTheir known` says that the files hold these texts
-pub shown : (held : Option (List ℕ)) (asked : AskedShow) (tower : TowerModel) (register : Option RegId) (closed : List ClosedShard) (logs : List Log) (chosen : MomentField) (lefts : List (Option (List ℕ))) (AreTheir : List (List ℕ) → Type 0) (text : List ℕ) (status : ℕ) (old new : Option (List ℕ))
+pub shown : (held : Option (List ℕ)) (asked : AskedShow) (tower : TowerModel) (register : Option RegId) (closed : List ClosedShard) (logs : List Log) (lefts : List (Option (List ℕ))) (AreTheir : List (List ℕ) → Type 0) (text : List ℕ) (status : ℕ) (old new : Option (List ℕ))
     → IfSome held (λ file. IsTowerOf file tower)
     → IsNamed tower asked.register register
     → ((known : List (List ℕ)) → AreTheir known → lefts ≡ map (λ text. Some text) known)
-    → chosen ≡ chosen_field asked.moments
-    → ((read : List (List ℕ)) × AreReadOf lefts logs read × IsRun tower chosen 1 read closed logs)
+    → ((read : List (List ℕ)) × AreReadOf lefts logs read × IsRun tower asked.moments 1 read closed logs)
     → Appends old new text
     → IsStatus tower closed logs 0 0 status
     → IfSome held (λ file. (traces : List (List ℕ)) → AreTheir traces → IsShown asked file traces status old new)
-shown None asked tower register closed logs chosen lefts AreTheir text status old new says named opened field run written is = search rules
-shown (Some file) asked tower register closed logs chosen lefts AreTheir text status old new says named opened field run written is =
+shown None asked tower register closed logs lefts AreTheir text status old new says named opened run written is = search rules
+shown (Some file) asked tower register closed logs lefts AreTheir text status old new says named opened run written is =
     λ traces are. record {
       tower = tower;
       says = says;
@@ -37,7 +34,7 @@ shown (Some file) asked tower register closed logs chosen lefts AreTheir text st
       logs = logs;
       read = run.0;
       are_read = subst (λ (l : List (Option (List ℕ))). AreReadOf l logs run.0) (opened traces are) run.1;
-      run = subst (λ (f : MomentField). IsRun tower f 1 run.0 closed logs) field run.2;
+      run = run.2;
       text = text;
       written = written;
       status_is = is;

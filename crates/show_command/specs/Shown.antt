@@ -10,7 +10,6 @@ use Rattle.feeders.specs.Readers.{AreReadOf}
 use Rattle.logs.specs.Run.{IsRun}
 use Rattle.report.specs.Counts.{standing_in}
 use Rattle.words.specs.Words.{AskedShow}
-use Rattle.command_parts.specs.Job.{chosen_field}
 use Rattle.command_parts.specs.Tower.{IsNamed}
 use Rattle.command_parts.specs.Status.{IsStatus}
 
@@ -25,7 +24,7 @@ pub record IsShown (asked : AskedShow) (file : List ℕ) (traces : List (List �
   pub logs : List Log
   pub read : List (List ℕ)
   pub are_read : AreReadOf (map (λ trace. Some trace) traces) logs read
-  pub run : IsRun tower (chosen_field asked.moments) 1 read closed logs
+  pub run : IsRun tower asked.moments 1 read closed logs
   pub text : List ℕ
   pub written : Appends old new text
   pub status_is : IsStatus tower closed logs 0 0 status

@@ -6,10 +6,7 @@ ghost use Rattle.command_parts.specs.Files.{AreHeld};
 ghost use Rattle.show_command.specs.Shown.{IsShown};
 
 use crate::picture::picture;
-use command_parts::{
-    CommandFault, Files, Job, TRACE_LIMIT, named, open_files, read_tower, status_after, write_text,
-};
-use feeders::Pages;
+use command_parts::{CommandFault, Files, Job, OpenedRun, open_run, status_after, write_text};
 use report::laws::a_run_is_of_its_tower;
 use std::io::Write;
 use std::mem::forget;
@@ -31,16 +28,13 @@ pub fn draw<'a, A: AllocGlobal + Threads + Wait + Sync, F: Files, W: Write>(
         → IsShown (asked_show asked.entry.now) file traces status (W.contents out.old) (W.contents out.new))) }
     ensures quiet { IfErr result (λ fault. fault ≢ CommandFault.Unwritable → out.new ≡ out.old) }
 {
-    if asked.traces.len() > TRACE_LIMIT {
-        return Err(CommandFault::TooManyTraces);
-    }
     let alloc = rt.alloc();
-    let tower = read_tower(alloc, files, asked.tower)?;
-    let register = named(&tower, asked.register)?;
-    let readers = open_files(alloc, files, &asked.traces)?;
-    let Ok(pages) = Pages::new(alloc) else {
-        return Err(CommandFault::Memory);
-    };
+    let OpenedRun {
+        tower,
+        register,
+        readers,
+        pages,
+    } = open_run(alloc, files, asked.tower, asked.register, &asked.traces)?;
     a_run_is_of_its_tower();
     let job = Job {
         rt,

@@ -29,6 +29,13 @@ const CELLS: u32 = 100;
 /// How many units a row of a drawing has where no width is given.
 const UNITS: u32 = 1000;
 
+/// A register of a page, and whether its picture is unfolded.
+#[derive(Clone, Copy)]
+struct PagePart {
+    id: RegId,
+    is_unfolded: bool,
+}
+
 /// The text of a picture of one register, or of a page of all registers that fail.
 pub fn picture(
     alloc: Global,
@@ -114,7 +121,11 @@ fn push_one(
     };
     if asked.picture == Picture::Html {
         push_page_head(text, theme_of(asked), "A register and its operations")?;
-        push_part(text, alloc, asked, tower, book, id, true)?;
+        let part = PagePart {
+            id,
+            is_unfolded: true,
+        };
+        push_part(text, alloc, asked, tower, book, part)?;
         push_left_out(text, "<pre>", &run.logs, "</pre>\n")?;
         push_page_end(text)?;
         return Ok(());
@@ -198,8 +209,11 @@ fn push_page(
     }
     for id in &failing {
         if let Some(book) = closed.book(*id) {
-            let is_unfolded = book.holds() || to_blame.contains(id);
-            push_part(text, alloc, asked, tower, book, *id, is_unfolded)?;
+            let part = PagePart {
+                id: *id,
+                is_unfolded: book.holds() || to_blame.contains(id),
+            };
+            push_part(text, alloc, asked, tower, book, part)?;
         }
     }
     push_left_out(text, "<pre>", &run.logs, "</pre>\n")?;
@@ -214,20 +228,19 @@ fn push_part(
     asked: &Show,
     tower: &Tower,
     book: &RegisterBook,
-    id: RegId,
-    is_unfolded: bool,
+    part: PagePart,
 ) -> Result<(), Memory> {
     let order = order_of(alloc, book)?;
-    let sketch = sketch_of(alloc, asked, tower, book, id, &order)?;
+    let sketch = sketch_of(alloc, asked, tower, book, part.id, &order)?;
     let finding = Finding {
         kind: book.kind(),
         operations: book.len() as u64,
         witness: book.witness(),
     };
     let mut section = String::new(alloc);
-    push_section(&mut section, tower, id, &finding)?;
-    let sheet = sheet_of(asked, id, false);
-    push_page_part(text, alloc, &sketch, &sheet, is_unfolded, &section)?;
+    push_section(&mut section, tower, part.id, &finding)?;
+    let sheet = sheet_of(asked, part.id, false);
+    push_page_part(text, alloc, &sketch, &sheet, part.is_unfolded, &section)?;
     Ok(())
 }
 

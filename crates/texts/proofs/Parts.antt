@@ -1,13 +1,13 @@
 -- What is found among entries and among parts, and the codes and lines of parts as those of one list.
-use Rattle.std.proofs.Common.{◌≡◌, ◌<◌, ◌+◌, ◌++◌, ◌∙◌, ap, sym, refl, ℕ, true, false, List, [], ◌∷◌, drop, length, slice_index_or, Option, Some, None, Bor, Result, Ok, Err, OnOk}
+use Rattle.std.proofs.Common.{◌≡◌, ◌<◌, ◌+◌, ◌++◌, ◌∙◌, ap, sym, refl, ℕ, Bool, true, false, List, [], ◌∷◌, cond, drop, find, length, map, slice_index_or, Option, Some, None, Bor, Result, Ok, Err, OnOk}
 use Rattle.std.specs.List.{flat_map}
-use Rattle.std.specs.Option.{option_or}
+use Rattle.std.specs.Option.{option_map, option_map_or, option_or}
 use Rattle.std.specs.Str.{str_eq_ignore_ascii_case}
 use Rattle.std.proofs.lemmas.List.{at_drop_more}
 use Rattle.std.proofs.lemmas.Grind.{flat_map-append}
 use Rattle.std.proofs.lemmas.List.Folds.{find-append}
 use Rattle.texts.specs.declared.entry.Explanation.{Explanation}
-use Rattle.texts.specs.Codes.{code_among, codes_of}
+use Rattle.texts.specs.Codes.{all_messages, code_among, codes_of, entry_among, message_of_code, messages_of}
 use Rattle.texts.specs.Printing.{line_text, list_text}
 
 abbrev no_text : Bor (List ℕ)
@@ -15,33 +15,46 @@ no_text = record { ref_ptr = (0, 0); now = [] }
 
 -- what stands for an entry where there is none
 abbrev pub no_entry : Explanation
-no_entry = record { code = no_text; name = no_text; outcome = no_text; what = no_text; more = no_text; mostly = no_text; tower = no_text; example = no_text; mend = no_text; see = no_text }
+no_entry = record { code = no_text; name = no_text; message = no_text; outcome = no_text; what = no_text; more = no_text; mostly = no_text; tower = no_text; example = no_text; mend = no_text; see = no_text }
 
 -- the next entry has the code
 pub is_next : (entries : List Explanation) (i : ℕ) (d : Explanation) (word : List ℕ) → i < length entries → str_eq_ignore_ascii_case (slice_index_or entries i d).code.now word ≡ true
-    → code_among (codes_of (drop i entries)) word ≡ Some (slice_index_or entries i d).code.now
-is_next entries i d word below is = at_drop_more (λ left. code_among (codes_of left) word) entries i d below ∙ rw is refl
+    → entry_among (drop i entries) word ≡ Some (slice_index_or entries i d)
+is_next entries i d word below is = at_drop_more (λ left. entry_among left word) entries i d below ∙ rw is refl
 
 -- it is not the next entry
 pub is_after : (entries : List Explanation) (i : ℕ) (d : Explanation) (word : List ℕ) → i < length entries → str_eq_ignore_ascii_case (slice_index_or entries i d).code.now word ≡ false
-    → code_among (codes_of (drop i entries)) word ≡ code_among (codes_of (drop (i + 1) entries)) word
-is_after entries i d word below is = at_drop_more (λ left. code_among (codes_of left) word) entries i d below ∙ rw is refl
+    → entry_among (drop i entries) word ≡ entry_among (drop (i + 1) entries) word
+is_after entries i d word below is = at_drop_more (λ left. entry_among left word) entries i d below ∙ rw is refl
+
+-- all entries of these parts, in order
+abbrev pub entries_of : List (Bor (List Explanation)) → List Explanation
+entries_of parts = flat_map (λ part. part.now) parts
 
 -- the next part has the code
-pub in_next : (parts : List (Bor (List Explanation))) (i : ℕ) (d : Bor (List Explanation)) (word code : List ℕ) → i < length parts → Some code ≡ code_among (codes_of (slice_index_or parts i d).now) word
-    → Some code ≡ code_among (flat_map (λ part. codes_of part.now) (drop i parts)) word
-in_next parts i d word code below is =
-    let others = flat_map (λ (part : Bor (List Explanation)). codes_of part.now) (drop (i + 1) parts) in
-    sym (at_drop_more (λ left. code_among (flat_map (λ part. codes_of part.now) left) word) parts i d below ∙ find-append _ (codes_of (slice_index_or parts i d).now) others
-    ∙ ap (λ found. option_or found (code_among others word)) (sym is))
+pub in_next : (parts : List (Bor (List Explanation))) (i : ℕ) (d : Bor (List Explanation)) (word : List ℕ) (entry : Explanation) → i < length parts → Some entry ≡ entry_among (slice_index_or parts i d).now word
+    → Some entry ≡ entry_among (entries_of (drop i parts)) word
+in_next parts i d word entry below is =
+    let others = entries_of (drop (i + 1) parts) in
+    sym (at_drop_more (λ left. entry_among (entries_of left) word) parts i d below ∙ find-append _ (slice_index_or parts i d).now others
+    ∙ ap (λ found. option_or found (entry_among others word)) (sym is))
 
 -- the next part has no such code
-pub in_others : (parts : List (Bor (List Explanation))) (i : ℕ) (d : Bor (List Explanation)) (word : List ℕ) → i < length parts → None ≡ code_among (codes_of (slice_index_or parts i d).now) word
-    → code_among (flat_map (λ part. codes_of part.now) (drop i parts)) word ≡ code_among (flat_map (λ part. codes_of part.now) (drop (i + 1) parts)) word
+pub in_others : (parts : List (Bor (List Explanation))) (i : ℕ) (d : Bor (List Explanation)) (word : List ℕ) → i < length parts → None ≡ entry_among (slice_index_or parts i d).now word
+    → entry_among (entries_of (drop i parts)) word ≡ entry_among (entries_of (drop (i + 1) parts)) word
 in_others parts i d word below is =
-    let others = flat_map (λ (part : Bor (List Explanation)). codes_of part.now) (drop (i + 1) parts) in
-    at_drop_more (λ left. code_among (flat_map (λ part. codes_of part.now) left) word) parts i d below ∙ find-append _ (codes_of (slice_index_or parts i d).now) others
-    ∙ ap (λ found. option_or found (code_among others word)) (sym is)
+    let others = entries_of (drop (i + 1) parts) in
+    at_drop_more (λ left. entry_among (entries_of left) word) parts i d below ∙ find-append _ (slice_index_or parts i d).now others
+    ∙ ap (λ found. option_or found (entry_among others word)) (sym is)
+
+-- what is found by a part of each item is found among these parts
+found_by : {X Y : Type 0} (p : Y → Bool) (f : X → Y) (xs : List X) → option_map f (find (λ x. p (f x)) xs) ≡ find p (map f xs)
+found_by p f [] = refl
+found_by p f (x ∷ xs) = by_test (p (f x)) (found_by p f xs)
+  where
+    by_test : (b : Bool) → option_map f (find (λ y. p (f y)) xs) ≡ find p (map f xs) → option_map f (cond b (Some x) (find (λ y. p (f y)) xs)) ≡ cond b (Some (f x)) (find p (map f xs))
+    by_test true e = refl
+    by_test false e = e
 
 codes_append : (entries others : List Explanation) → codes_of (entries ++ others) ≡ codes_of entries ++ codes_of others
 codes_append [] others = refl
@@ -50,6 +63,38 @@ codes_append (entry ∷ entries) others = ap (λ rest. entry.code.now ∷ rest) 
 pub codes_of_parts : (parts : List (Bor (List Explanation))) → codes_of (flat_map (λ part. part.now) parts) ≡ flat_map (λ part. codes_of part.now) parts
 codes_of_parts [] = refl
 codes_of_parts (part ∷ parts) = codes_append part.now (flat_map (λ part. part.now) parts) ∙ ap (λ rest. codes_of part.now ++ rest) (codes_of_parts parts)
+
+messages_append : (entries others : List Explanation) → messages_of (entries ++ others) ≡ messages_of entries ++ messages_of others
+messages_append [] others = refl
+messages_append (entry ∷ entries) others = ap (λ rest. (entry.code.now, entry.message.now) ∷ rest) (messages_append entries others)
+
+messages_of_parts : (parts : List (Bor (List Explanation))) → messages_of (entries_of parts) ≡ flat_map (λ part. messages_of part.now) parts
+messages_of_parts [] = refl
+messages_of_parts (part ∷ parts) = messages_append part.now (entries_of parts) ∙ ap (λ rest. messages_of part.now ++ rest) (messages_of_parts parts)
+
+code_in : (found : Option (Bor Explanation)) → option_map (λ entry. entry.now.code.now) found ≡ option_map (λ entry. entry.code.now) (option_map (λ entry. entry.now) found)
+code_in None = refl
+code_in (Some entry) = refl
+
+-- the code of the entry that is found is the one that the word names
+pub code_found : (entries : List Explanation) (word : List ℕ) (found : Option (Bor Explanation)) → option_map (λ entry. entry.now) found ≡ entry_among entries word
+    → option_map (λ entry. entry.now.code.now) found ≡ code_among (codes_of entries) word
+code_found entries word found is =
+    code_in found ∙ ap (λ one. option_map (λ entry. entry.code.now) one) is ∙ found_by (λ code. str_eq_ignore_ascii_case code word) (λ (entry : Explanation). entry.code.now) entries
+
+message_in : (found : Option Explanation) → option_map_or (λ entry. entry.message.now) found [] ≡ option_map_or (λ (one : List ℕ × List ℕ). one.1) (option_map (λ entry. (entry.code.now, entry.message.now)) found) []
+message_in None = refl
+message_in (Some entry) = refl
+
+-- the message of the entry that is found is that of the code
+pub message_found : (parts : List (Bor (List Explanation))) (word : List ℕ) (found : Option Explanation) → flat_map (λ part. messages_of part.now) parts ≡ all_messages → found ≡ entry_among (entries_of parts) word
+    → option_map_or (λ entry. entry.message.now) found [] ≡ message_of_code word
+message_found parts word found all is =
+    let IsOf : List ℕ × List ℕ → Bool = λ one. str_eq_ignore_ascii_case one.0 word in
+    message_in found
+    ∙ ap (λ (one : Option (List ℕ × List ℕ)). option_map_or (λ (pair : List ℕ × List ℕ). pair.1) one [])
+    (ap (λ one. option_map (λ entry. (entry.code.now, entry.message.now)) one) is ∙ found_by IsOf (λ (entry : Explanation). (entry.code.now, entry.message.now)) (entries_of parts)
+    ∙ ap (λ (listed : List (List ℕ × List ℕ)). find IsOf listed) (messages_of_parts parts ∙ all))
 
 pub list_of_parts : (parts : List (Bor (List Explanation))) → list_text (flat_map (λ part. part.now) parts) ≡ flat_map (λ part. list_text part.now) parts
 list_of_parts [] = refl

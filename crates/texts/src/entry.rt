@@ -11,6 +11,8 @@ pub struct Explanation {
     /// The code or the word, as it is printed.
     pub code: &'static str,
     pub name: &'static str,
+    /// What the message of `lint` begins with where a trace or a tower file meets the code; else empty.
+    pub message: &'static str,
     /// What becomes of the element, the trace or the run, in one line.
     pub outcome: &'static str,
     /// What the code says, in one line.

@@ -8,6 +8,7 @@ pub(crate) const FORM_CODES: [Explanation; 8] = [
     Explanation {
         code: "F1",
         name: "NotAMap",
+        message: "an element that is no map",
         outcome: REFUSES,
         what: "An element of the trace is no map.",
         more: "Events, edits and questions are maps, `{..}`. Tags before one do no harm.",
@@ -23,6 +24,7 @@ pub(crate) const FORM_CODES: [Explanation; 8] = [
     Explanation {
         code: "F2",
         name: "MissingField",
+        message: "a field is missing: ",
         outcome: REFUSES,
         what: "A field that is needed is not there.",
         more: "An event needs `:process`, `:type` and `:f`, and with `:type` `:invoke` or `:ok` its moment, under
@@ -38,6 +40,7 @@ claim `:register` and `:kind`.",
     Explanation {
         code: "F3",
         name: "DuplicateField",
+        message: "a field stands twice: ",
         outcome: REFUSES,
         what: "A field that is read stands twice in one map.",
         more: "It is refused also where both are the same. Fields that are not read may stand as often as they
@@ -52,6 +55,7 @@ like.",
     Explanation {
         code: "F4",
         name: "BadType",
+        message: "the :type, :edit or :kind is none that is known",
         outcome: REFUSES,
         what: "`:type`, `:edit` or the `:kind` of a claim is no word that is known.",
         more: "`:type` is `:invoke`, `:ok`, `:fail` or `:info`; `:edit` is `:amend`, `:withdraw` or `:claim`; and
@@ -66,6 +70,7 @@ like.",
     Explanation {
         code: "F5",
         name: "UnsupportedF",
+        message: "the :f is neither :read nor :write",
         outcome: REFUSES,
         what: "`:f` is neither `:read` nor `:write`.",
         more: "What such an operation did to the register is not known, so the verdict on a register that met
@@ -81,6 +86,7 @@ one does not cover it.",
     Explanation {
         code: "F6",
         name: "BadValue",
+        message: "a value that is neither nil nor an integer that fits",
         outcome: REFUSES,
         what: "A `:value` is neither `nil` nor an integer, or an `:of` none from 0.",
         more: "An integer is decimal and fits 64 bits with a sign: `1.0` and `01` are none.",
@@ -94,6 +100,7 @@ one does not cover it.",
     Explanation {
         code: "F7",
         name: "BadMoment",
+        message: "a moment that is no integer from 0",
         outcome: REFUSES,
         what: "A moment is no integer from 0.",
         more: "It stands under `:index`, or under `:time` with `--moment time`, and in an amendment under `:begin`
@@ -108,6 +115,7 @@ and `:end`; only an `:end` may be `nil`.",
     Explanation {
         code: "F8",
         name: "NoRegister",
+        message: "the tower has no register of this name",
         outcome: REFUSES,
         what: "The tower has no such register.",
         more: r#"The name in `[k v]`, `:ask` or `:register` is compared byte by byte, without its tags: `x`, `:x` and

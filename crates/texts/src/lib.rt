@@ -3,6 +3,7 @@
 //! ```text
 //! explanation_of("x7")                      what is said of X7, with an example and how to mend it
 //! note_of("l5")                             the same, of the code of a note alone
+//! message_of_code("X7")                     what the message of `lint` begins with
 //! refusals()                                the entries of the codes by which an element is refused
 //! push_entry(&mut text, entry)?             all that is said of it
 //! push_list(&mut text)?                     a line for each code and word
@@ -28,5 +29,5 @@ mod version;
 
 pub use entry::{Explanation, push_entry};
 pub use laws::each_code_has_an_entry;
-pub use listed::{explanation_of, note_of, push_list, refusals};
+pub use listed::{explanation_of, message_of_code, note_of, push_list, refusals};
 pub use version::VERSION;

@@ -1,7 +1,7 @@
 //! All that is explained, in the order in which it is listed.
 
 ghost use Rattle.std.specs.Prelude.{◌≡◌, ◌++◌, ℕ, List, OnOk, flat_map, option_map, string_bytes};
-ghost use Rattle.texts.specs.Codes.{all_codes, code_among, code_of, codes_of, note_codes, refusal_codes};
+ghost use Rattle.texts.specs.Codes.{all_codes, all_messages, code_among, code_of, codes_of, entry_among, message_of_code, messages_of, note_codes, refusal_codes};
 ghost use Rattle.texts.specs.Printing.{AreLines, list_text};
 
 use crate::entry::{Explanation, push_line};
@@ -21,6 +21,17 @@ pub fn explanation_of(word: &str) -> Option<&'static Explanation>
 {
     let parts: [&'static [Explanation]; 8] = parts();
     find_in(parts.as_slice(), word)
+}
+
+/// What the message of `lint` begins with for a code; empty where it is none that a trace or a tower file meets.
+pub fn message_of_code(code: &str) -> &'static str
+    ensures { result.now ≡ message_of_code code.now }
+{
+    let parts: [&'static [Explanation]; 8] = parts();
+    match find_in(parts.as_slice(), code) {
+        Some(entry) => entry.message,
+        None => "",
+    }
 }
 
 /// What is said of the code of a note, in capitals or not; none where it is none.
@@ -45,7 +56,8 @@ fn notes() -> &'static [Explanation]
 
 /// The entries, by what they are about.
 fn parts() -> [&'static [Explanation]; 8]
-    ensures { flat_map (λ part. codes_of part.now) result ≡ all_codes }
+    ensures codes { flat_map (λ part. codes_of part.now) result ≡ all_codes }
+    ensures messages { flat_map (λ part. messages_of part.now) result ≡ all_messages }
 {
     [
         &TEXT_CODES,
@@ -60,7 +72,7 @@ fn parts() -> [&'static [Explanation]; 8]
 }
 
 fn find_in(parts: &[&'static [Explanation]], word: &str) -> Option<&'static Explanation>
-    ensures { option_map (λ entry. entry.now.code.now) result ≡ code_among (flat_map (λ part. codes_of part.now) parts.now) word.now }
+    ensures { option_map (λ entry. entry.now) result ≡ entry_among (flat_map (λ part. part.now) parts.now) word.now }
 {
     for part in parts {
         if let Some(entry) = find_among(part, word) {
@@ -71,7 +83,7 @@ fn find_in(parts: &[&'static [Explanation]], word: &str) -> Option<&'static Expl
 }
 
 fn find_among(entries: &'static [Explanation], word: &str) -> Option<&'static Explanation>
-    ensures { option_map (λ entry. entry.now.code.now) result ≡ code_among (codes_of entries.now) word.now }
+    ensures { option_map (λ entry. entry.now) result ≡ entry_among entries.now word.now }
 {
     for entry in entries {
         if entry.code.eq_ignore_ascii_case(word) {

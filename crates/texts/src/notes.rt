@@ -11,6 +11,7 @@ pub(crate) const NOTES: [Explanation; 8] = [
     Explanation {
         code: "L1",
         name: "SkippedClient",
+        message: "",
         outcome: NOTED,
         what: "An event that looks like a client's was skipped.",
         more: "Its `:f` is `:read` or `:write`, but its `:process` is no integer of 64 bits.",
@@ -25,6 +26,7 @@ pub(crate) const NOTES: [Explanation; 8] = [
     Explanation {
         code: "L2",
         name: "NoOperation",
+        message: "",
         outcome: NOTED,
         what: "A trace, or a register of the tower, has no operation.",
         more: "A register without operations holds, so nothing is said of it.",
@@ -39,6 +41,7 @@ pub(crate) const NOTES: [Explanation; 8] = [
     Explanation {
         code: "L3",
         name: "NoValue",
+        message: "",
         outcome: NOTED,
         what: "An event has no `:value`, or a field that is nearly one that is read.",
         more: "A missing `:value` is `nil`, and a field that is not known is passed over.",
@@ -52,6 +55,7 @@ pub(crate) const NOTES: [Explanation; 8] = [
     Explanation {
         code: "L4",
         name: "UnreadField",
+        message: "",
         outcome: NOTED,
         what: "The tower file has a field that is not read.",
         more: "It is passed over, and what it was to say is not said.",
@@ -67,6 +71,7 @@ pub(crate) const NOTES: [Explanation; 8] = [
     Explanation {
         code: "L5",
         name: "Unanswered",
+        message: "",
         outcome: NOTED,
         what: "An invocation has no answer up to the end of the trace.",
         more: "The operation stays open: a read is not judged, and a write may take effect at any time.",
@@ -80,6 +85,7 @@ pub(crate) const NOTES: [Explanation; 8] = [
     Explanation {
         code: "L6",
         name: "SilentWriter",
+        message: "",
         outcome: NOTED,
         what: "A writer that the tower file names for an atomic register has no event in any trace.",
         more: "",
@@ -93,6 +99,7 @@ pub(crate) const NOTES: [Explanation; 8] = [
     Explanation {
         code: "L7",
         name: "TiedMoments",
+        message: "",
         outcome: NOTED,
         what: "Two events have one moment, or a moment is out of proportion.",
         more: "On one register a tie is refused, as X4. On two it does no harm. A moment is out of
@@ -109,6 +116,7 @@ proportion that is at least 1000 times the ones before and after it, neither of 
     Explanation {
         code: "L8",
         name: "RestsOnARefusal",
+        message: "",
         outcome: NOTED,
         what: "A register fails by an operation that a refusal touches.",
         more: "The read returned the value of a write that was refused, or an edit of the operation or a claim

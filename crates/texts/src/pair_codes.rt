@@ -8,6 +8,7 @@ pub(crate) const PAIR_CODES: [Explanation; 4] = [
     Explanation {
         code: "P1",
         name: "ProcessBusy",
+        message: "an invocation of a process whose last one has no answer yet",
         outcome: REFUSES,
         what: "A process invokes while its last invocation waits for an answer.",
         more: "A process does one operation at a time.",
@@ -25,6 +26,7 @@ pub(crate) const PAIR_CODES: [Explanation; 4] = [
     Explanation {
         code: "P2",
         name: "NoInvocation",
+        message: "an answer or an edit, and no invocation that it is of",
         outcome: REFUSES,
         what: "The invocation that is answered or edited is not there.",
         more: "An answer needs an invocation of its process, in its own trace, that waits for one. An edit's `:of`
@@ -41,6 +43,7 @@ is the place of an invocation in its own trace that has no F or P code; places c
     Explanation {
         code: "P3",
         name: "AnswerMismatch",
+        message: "an :ok that does not fit its invocation",
         outcome: REFUSES,
         what: "An `:ok` does not fit the invocation that it answers.",
         more: "It has another `:f`, another register, or for a write another value; a missing value is `nil`. The
@@ -56,6 +59,7 @@ invocation waits for its answer as before.",
     Explanation {
         code: "P4",
         name: "Memory",
+        message: "out of memory",
         outcome: ENDS_THE_RUN,
         what: "The system refused memory for an invocation.",
         more: NOT_PRINTED,

@@ -8,6 +8,7 @@ pub(crate) const REGISTER_CODES: [Explanation; 14] = [
     Explanation {
         code: "X1",
         name: "UnknownOp",
+        message: "its operation does not stand",
         outcome: REFUSES,
         what: "The operation that is answered or edited does not stand.",
         more: "Its register refused the invocation, or it was taken back, by `:fail` or by a withdrawal.",
@@ -22,6 +23,7 @@ pub(crate) const REGISTER_CODES: [Explanation; 14] = [
     Explanation {
         code: "X2",
         name: "OpTaken",
+        message: "its operation stands already",
         outcome: REFUSES,
         what: "An operation of that name stands already.",
         more: "A name is the number of a trace and a place in it, so no two invocations have one name.",
@@ -35,6 +37,7 @@ pub(crate) const REGISTER_CODES: [Explanation; 14] = [
     Explanation {
         code: "X3",
         name: "EndNotAfterBegin",
+        message: "an end that is not after the beginning",
         outcome: REFUSES,
         what: "An operation would end at the moment where it begins, or before it.",
         more: "An end has to be greater than its beginning. The operation stays as it was, often without an end.",
@@ -50,6 +53,7 @@ pub(crate) const REGISTER_CODES: [Explanation; 14] = [
     Explanation {
         code: "X4",
         name: "MomentTaken",
+        message: "a moment that another operation has: ",
         outcome: REFUSES,
         what: "Another operation of the register begins or ends at this moment.",
         more: "The moments of a register all differ, so that of any two it is known which comes first.",
@@ -65,6 +69,7 @@ pub(crate) const REGISTER_CODES: [Explanation; 14] = [
     Explanation {
         code: "X5",
         name: "MomentTooLarge",
+        message: "a moment past 4611686018427387903",
         outcome: REFUSES,
         what: "A moment is greater than 4611686018427387903.",
         more: "Nanoseconds since 1970 are below that until the year 2116.",
@@ -78,6 +83,7 @@ pub(crate) const REGISTER_CODES: [Explanation; 14] = [
     Explanation {
         code: "X6",
         name: "NotAWriter",
+        message: "a write by a process that is no writer of the register",
         outcome: REFUSES,
         what: "A write by a process that is none of the register's `:writers`.",
         more: "Its answer is then refused as X1. Reads may be by any process.",
@@ -92,6 +98,7 @@ pub(crate) const REGISTER_CODES: [Explanation; 14] = [
     Explanation {
         code: "X7",
         name: "WritesOverlap",
+        message: "a write that overlaps the write ",
         outcome: REFUSES,
         what: "A write on a safe or regular register overlaps another write.",
         more: "These kinds have one writer, and its writes come one after the other.",
@@ -112,6 +119,7 @@ pub(crate) const REGISTER_CODES: [Explanation; 14] = [
     Explanation {
         code: "X8",
         name: "ValueTaken",
+        message: "a write of a value that is had by ",
         outcome: REFUSES,
         what: "An atomic register is written a value that another write has.",
         more: "Or its initial value, where that is known. A value is written once, so that a read tells which
@@ -128,6 +136,7 @@ write it saw. A write counts though it failed to answer.",
     Explanation {
         code: "X9",
         name: "OutOfDomain",
+        message: "a write of a value outside the domain",
         outcome: REFUSES,
         what: "A write of a value that is not in the register's `:domain`.",
         more: "Its answer is then refused as X1. Reads may return any value.",
@@ -141,6 +150,7 @@ write it saw. A write counts though it failed to answer.",
     Explanation {
         code: "X10",
         name: "ClaimFixed",
+        message: "a claim of a register whose kind is fixed",
         outcome: REFUSES,
         what: "A claim of a register whose kind may not change.",
         more: "The tower file says `:fixed true` of it. Also a claim of the kind that it has is refused.",
@@ -154,6 +164,7 @@ write it saw. A write counts though it failed to answer.",
     Explanation {
         code: "X11",
         name: "ClaimWriters",
+        message: "a claim to be safe or regular, and not exactly one writer",
         outcome: REFUSES,
         what: "A claim to be safe or regular, without exactly one writer.",
         more: "These kinds have one writer: `:writers` has to be a vector of one process.",
@@ -167,6 +178,7 @@ write it saw. A write counts though it failed to answer.",
     Explanation {
         code: "X12",
         name: "ClaimOverlap",
+        message: "a claim to be safe or regular, and writes overlap: ",
         outcome: REFUSES,
         what: "A claim to be safe or regular, while two writes overlap.",
         more: "The writes of these kinds come one after the other.",
@@ -186,6 +198,7 @@ write it saw. A write counts though it failed to answer.",
     Explanation {
         code: "X13",
         name: "ClaimRepeats",
+        message: "a claim to be atomic, and a value is had twice: by ",
         outcome: REFUSES,
         what: "A claim to be atomic, while two writes have one value.",
         more: "Or one has the initial value, where that is known. An atomic register is written each value once.",
@@ -201,6 +214,7 @@ write it saw. A write counts though it failed to answer.",
     Explanation {
         code: "X14",
         name: "ClaimInitial",
+        message: "a claim to be safe or regular, and the initial value is unknown",
         outcome: REFUSES,
         what: "A claim to be safe or regular, while nobody knows the initial value.",
         more: "A read of these kinds may have to return it, so it has to be known.",

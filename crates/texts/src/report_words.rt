@@ -9,6 +9,7 @@ pub(crate) const REPORT_WORDS: [Explanation; 10] = [
     Explanation {
         code: "wrong",
         name: "a fault",
+        message: "",
         outcome: FAILS,
         what: "A read of a safe or regular register returned what it may not.",
         more: "A read that no write overlaps has to return what the last write before it wrote, or else the
@@ -26,6 +27,7 @@ value or one of the overlapping writes' where it is regular.",
     Explanation {
         code: "unwritten",
         name: "a fault",
+        message: "",
         outcome: FAILS,
         what: "A read of an atomic register returned a value that nothing wrote.",
         more: "Nor is it the initial value. Where nobody knows that one, two reads are named: they returned two
@@ -41,6 +43,7 @@ such values, and only one can be the initial one.",
     Explanation {
         code: "early",
         name: "a fault",
+        message: "",
         outcome: FAILS,
         what: "A read of an atomic register ended before its value was written.",
         more: "The write of that value began after the read had ended. The read is named first, then the write.",
@@ -55,6 +58,7 @@ such values, and only one can be the initial one.",
     Explanation {
         code: "conflict",
         name: "a fault",
+        message: "",
         outcome: FAILS,
         what: "No order of an atomic register's operations explains its reads.",
         more: "Of `conflict A B C D`, A and D are of one value, and B and C of another. A ended before B began, so
@@ -74,6 +78,7 @@ the value of A is the older one; C ended before D began, so it is the newer one.
     Explanation {
         code: "culprit",
         name: "a line",
+        message: "",
         outcome: "the register is to blame",
         what: "A register that fails, though all that it is made of hold.",
         more: "Its parts are those in its `:of`; a register without parts that fails is a culprit.",
@@ -89,6 +94,7 @@ the value of A is the older one; C ended before D began, so it is the newer one.
     Explanation {
         code: "answer",
         name: "a line",
+        message: "",
         outcome: "tells how a register stood in mid-run",
         what: "What was so where a trace asked.",
         more: "All that the trace itself did before is in it. What other traces did is in it as far as they were
@@ -103,6 +109,7 @@ then.",
     Explanation {
         code: "refused",
         name: "a line",
+        message: "",
         outcome: "one element was left out; status 3 where no register fails",
         what: "An element of a trace was not taken.",
         more: "In `refused ID CODE` the id is TRACE:PLACE, each from 0; a place counts the elements of a trace,
@@ -116,6 +123,7 @@ not its lines. The code says why.",
     Explanation {
         code: "broken",
         name: "a line",
+        message: "",
         outcome: "one trace was not read to its end; status 2",
         what: "A trace could not be read on from here.",
         more: "In `broken TRACE CODE at BYTE` the trace is a number, from 0, and BYTE the number of bytes before
@@ -129,6 +137,7 @@ the fault. What stands before it is judged.",
     Explanation {
         code: "order",
         name: "a line",
+        message: "",
         outcome: "printed where `--order NAME` asks for it",
         what: "An order of a register's operations that explains its reads.",
         more: "Each read returns the write before it, and what ended before another began stands before it. Reads
@@ -144,6 +153,7 @@ without an end are not in it. `none` where the register fails or is not atomic."
     Explanation {
         code: "status",
         name: "of the program",
+        message: "",
         outcome: "what a script sees",
         what: "The exit status of `check`: of these the first that fits.",
         more: "2  a trace is broken, or there is no report

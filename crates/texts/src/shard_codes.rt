@@ -15,6 +15,7 @@ pub(crate) const SHARD_CODES: [Explanation; 6] = [
     Explanation {
         code: "S1",
         name: "UnknownRegister",
+        message: "",
         outcome: FAULT_OF_REGAUDIT,
         what: "A shard was asked for a register that the tower does not have.",
         more: NOT_OF_A_TEXT,
@@ -27,6 +28,7 @@ pub(crate) const SHARD_CODES: [Explanation; 6] = [
     Explanation {
         code: "S2",
         name: "Memory",
+        message: "",
         outcome: ENDS_THE_RUN,
         what: "The system refused memory for an edit of a register.",
         more: NOT_PRINTED,
@@ -39,6 +41,7 @@ pub(crate) const SHARD_CODES: [Explanation; 6] = [
     Explanation {
         code: "S3",
         name: "JournalBehind",
+        message: "",
         outcome: FAULT_OF_REGAUDIT,
         what: "A shard's journal is not the one that a feeder has seen.",
         more: NOT_OF_A_TEXT,
@@ -51,6 +54,7 @@ pub(crate) const SHARD_CODES: [Explanation; 6] = [
     Explanation {
         code: "S4",
         name: "PassMissing",
+        message: "",
         outcome: FAULT_OF_REGAUDIT,
         what: "At the end of the run a feeder's pass is not there.",
         more: NOT_OF_A_TEXT,
@@ -63,6 +67,7 @@ pub(crate) const SHARD_CODES: [Explanation; 6] = [
     Explanation {
         code: "S5",
         name: "Stranger",
+        message: "",
         outcome: FAULT_OF_REGAUDIT,
         what: "A shard's journal has an entry that its feeder did not submit.",
         more: NOT_OF_A_TEXT,
@@ -75,6 +80,7 @@ pub(crate) const SHARD_CODES: [Explanation; 6] = [
     Explanation {
         code: "S6",
         name: "ForeignPass",
+        message: "",
         outcome: FAULT_OF_REGAUDIT,
         what: "A feeder's pass is that of another run, or there are two of it.",
         more: NOT_OF_A_TEXT,

@@ -63,15 +63,14 @@ pub fn place(
     if registers.len() >= MOST_REGISTERS {
         return Err(TowerFault::TooMany);
     }
-    let claim = Claim {
-        kind,
-        writers,
-        initial: initial_of(initial),
-        domain,
-        fixed,
-    };
     let entry = NameEntry {
-        claim,
+        claim: Claim {
+            kind,
+            writers,
+            initial: initial_of(initial),
+            domain,
+            fixed,
+        },
         level,
         parts,
     };

@@ -6,17 +6,16 @@ use Rattle.std.proofs.lemmas.Bool.Decides.{nat_tests}
 use Rattle.std.proofs.lemmas.List.{append-nil, append_assoc}
 use Rattle.std.proofs.lemmas.List.Elements.{All-append, All-contains_itself, All-cons, All-nil, Contains-append_cases, Contains-append_left, Contains-append_right, filter-append}
 use Rattle.logs.specs.declared.notice.Notice.{Notice}
-use Rattle.logs.specs.declared.notice.Notice.TheVariants.{Changed, Refused, Broke, Ended}
+use Rattle.logs.specs.declared.notice.Notice.TheVariants.{Refused, Broke, Ended}
 use Rattle.logs.specs.declared.log.Code.{Code}
 use Rattle.logs.specs.declared.log.Broken.{Broken}
-use Rattle.shards.specs.declared.entry.VerdictChange.{VerdictChange}
 use Rattle.watch.specs.declared.settling.Advance.{Advance}
 use Rattle.watch.specs.declared.settling.Advance.TheVariants.{Took}
 use Rattle.watch.specs.declared.settling.Held.{Held}
 use Rattle.watch.specs.declared.settling.FeederProgress.{FeederProgress}
+use Rattle.watch.specs.declared.settling.PlacedChange.{PlacedChange}
 use Rattle.records.specs.Run.{at_most_u64}
-use Rattle.watch.specs.declared.run.Terms.{Terms}
-use Rattle.watch.specs.Due.{AreDueFirst, AreHeldFrom, advanced, advanced_at, has_due, held_notice, is_due, is_of_another, until_of}
+use Rattle.watch.specs.Due.{AreDueFirst, AreHeldFrom, advanced, advanced_at, has_due, held_notice, is_due, is_of_another, notice_of, until_of}
 use Rattle.watch.specs.Settling.{says_fails}
 use Rattle.watch.proofs.Members.{there}
 
@@ -57,8 +56,8 @@ still front back one held h = by_cases (Contains-append_cases front back held h)
 same_number : (n : ℕ) → nat_eq n n ≡ true
 same_number n = grind (arith, nat_tests)
 
-not_another : (feeder place : ℕ) (change : VerdictChange) (one : Held) → one.change.register ≡ change.register → is_of_another (Changed feeder place change) one ≡ false
-not_another feeder place change one same = let e : nat_eq one.change.register.0 change.register.0 ≡ true = rw same (same_number change.register.0) in ap not e
+not_another : (placed : PlacedChange) (one : Held) → one.placed.change.register ≡ placed.change.register → is_of_another (notice_of placed) one ≡ false
+not_another placed one same = let e : nat_eq one.placed.change.register.0 placed.change.register.0 ≡ true = rw same (same_number placed.change.register.0) in ap not e
 
 -- what is left of what was held back when a notice came: all that is of another register, and nothing new
 abbrev AreLeft : Notice → List Held → List Held → Type 0
@@ -66,11 +65,11 @@ AreLeft notice before left = All (Contains before) left × (filter (is_of_anothe
     × ((left ≡ before) ⊎ ((front : List Held) × (back : List Held) × (one : Held) × (before ≡ front ++ one ∷ back) × (left ≡ front ++ back)))
 
 -- where one of this register is taken out
-pub left_without : (feeder place : ℕ) (change : VerdictChange) (before now front back : List Held) (one : Held) → before ≡ front ++ one ∷ back → now ≡ front ++ back
-    → one.change.register ≡ change.register → AreLeft (Changed feeder place change) before now
-left_without feeder place change before now front back one before_is now_is same = rw (before_is, now_is) (
+pub left_without : (placed : PlacedChange) (before now front back : List Held) (one : Held) → before ≡ front ++ one ∷ back → now ≡ front ++ back
+    → one.placed.change.register ≡ placed.change.register → AreLeft (notice_of placed) before now
+left_without placed before now front back one before_is now_is same = rw (before_is, now_is) (
   λ k d within. still front back one (slice_index_or (front ++ back) k d) (All-contains_itself (front ++ back) k d within),
-  taken_out_of (is_of_another (Changed feeder place change)) front back one (not_another feeder place change one same),
+  taken_out_of (is_of_another (notice_of placed)) front back one (not_another placed one same),
   inr (front, back, one, refl, refl),
 )
 
@@ -91,17 +90,17 @@ none_new progress settle notice before now left none = record {
 }
 
 -- one more of this register is held back
-pub one_new : (progress : List FeederProgress) (settle feeder place : ℕ) (change : VerdictChange) (before left now : List Held) (one : Held) → AreLeft (Changed feeder place change) before left → now ≡ left ++ one ∷ []
-    → held_notice one ≡ Changed feeder place change → one.until.items ≡ until_of progress settle one.feeder → AreHeldFrom progress settle (Changed feeder place change) before now
-one_new progress settle feeder place change before left now one is now_is notice until = record {
+pub one_new : (progress : List FeederProgress) (settle : ℕ) (placed : PlacedChange) (before left now : List Held) (one : Held) → AreLeft (notice_of placed) before left → now ≡ left ++ one ∷ []
+    → held_notice one ≡ notice_of placed → one.until.items ≡ until_of progress settle one.placed.feeder → AreHeldFrom progress settle (notice_of placed) before now
+one_new progress settle placed before left now one is now_is notice until = record {
   left = left;
   new = one ∷ [];
   parts = now_is;
   all_left = is.0;
   others_left = is.1;
   in_order = is.2;
-  waits = All-cons (λ held. (is_of_another (Changed feeder place change) held ≡ false) × (held.until.items ≡ until_of progress settle held.feeder)) one []
-      (subst (λ (n : Notice). is_of_another n one ≡ false) notice (ap not (same_number one.change.register.0)), until) (All-nil _);
+  waits = All-cons (λ held. (is_of_another (notice_of placed) held ≡ false) × (held.until.items ≡ until_of progress settle held.placed.feeder)) one []
+      (subst (λ (n : Notice). is_of_another n one ≡ false) notice (ap not (same_number one.placed.change.register.0)), until) (All-nil _);
   failure = λ some fails. ap (λ (n : Notice). n ∷ []) notice;
 }
 
@@ -138,9 +137,9 @@ first_removed [] left some is = absurd (omega arith)
 first_removed (one ∷ held) left some is = inr (one, ap (λ (l : List Held). one ∷ l) (sym is))
 
 -- what is held back by what a teller is seen as
-pub held_by : (progress own : List FeederProgress) (terms here : Terms) (notice : Notice) (before held now : List Held) → own ≡ progress → here ≡ terms → held ≡ before → AreHeldFrom own here.settle notice held now
-    → AreHeldFrom progress terms.settle notice before now
-held_by progress own terms here notice before held now p t h is = rw (sym p, sym t, sym h) is
+pub held_by : (progress own : List FeederProgress) (settle : ℕ) (notice : Notice) (before held now : List Held) → own ≡ progress → held ≡ before → AreHeldFrom own settle notice held now
+    → AreHeldFrom progress settle notice before now
+held_by progress own settle notice before held now p h is = rw (sym p, sym h) is
 
 pub due_by : (progress own : List FeederProgress) (before now : List Held) → own ≡ progress → AreDueFirst own before now → AreDueFirst progress before now
 due_by progress own before now p is = rw (sym p) is

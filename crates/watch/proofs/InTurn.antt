@@ -26,13 +26,13 @@ in_turn_longer : (most more : ℕ) (held : List Held) → most ≤ more → Wait
 in_turn_longer most more [] le is = tt
 in_turn_longer most more (one ∷ held) le is = (is.0, omega (arith, is.1, le), is.2, in_turn_longer most more held le is.3)
 
-longer_on : (least : ℕ) (held : List Held) (one : Held) → WaitLonger least held → (one.feeder ≡ 0 → least ≤ least_of one) → WaitLonger least (held ++ one ∷ [])
+longer_on : (least : ℕ) (held : List Held) (one : Held) → WaitLonger least held → (one.placed.feeder ≡ 0 → least ≤ least_of one) → WaitLonger least (held ++ one ∷ [])
 longer_on least [] one is longer = (longer, tt)
 longer_on least (first ∷ held) one is longer = (is.0, longer_on least held one is.1 longer)
 
 -- it waits for one feeder alone, and if it is of that feeder, as long as it may
 abbrev WaitsLongest : ℕ → Held → Type 0
-WaitsLongest most one = (length one.until.items ≡ 1) × (least_of one ≤ most) × (one.feeder ≡ 0 → least_of one ≡ most)
+WaitsLongest most one = (length one.until.items ≡ 1) × (least_of one ≤ most) × (one.placed.feeder ≡ 0 → least_of one ≡ most)
 
 in_turn_on : (most : ℕ) (held : List Held) (one : Held) → WaitInTurn most held → WaitsLongest most one → WaitInTurn most (held ++ one ∷ [])
 in_turn_on most [] one is waits = (waits.0, waits.1, tt, tt)
@@ -65,8 +65,8 @@ held_in_turn settle progress one notice before now alone turn is =
             subst (WaitInTurn (most_of settle one)) (sym left) (in_turn_without (most_of settle one) front back held (subst (WaitInTurn (most_of settle one)) was turn))
 
     new_waits : All (WaitsLongest (most_of settle one)) is.new
-    new_waits = All-weaker (λ held. (is_of_another notice held ≡ false) × (held.until.items ≡ until_of progress settle held.feeder)) (WaitsLongest (most_of settle one))
-        (λ held waits. waits_by settle held.feeder one held.until.items (waits.1 ∙ ap (λ (list : List FeederProgress). until_of list settle held.feeder) alone)) is.new is.waits
+    new_waits = All-weaker (λ held. (is_of_another notice held ≡ false) × (held.until.items ≡ until_of progress settle held.placed.feeder)) (WaitsLongest (most_of settle one))
+        (λ held waits. waits_by settle held.placed.feeder one held.until.items (waits.1 ∙ ap (λ (list : List FeederProgress). until_of list settle held.placed.feeder) alone)) is.new is.waits
 
 pub due_in_turn : (most : ℕ) (progress : List FeederProgress) (before now : List Held) → AreDueFirst progress before now → WaitInTurn most before → WaitInTurn most now
 due_in_turn most progress before now is turn = in_turn_after most is.0 now (subst (WaitInTurn most) is.1 turn)
@@ -113,22 +113,22 @@ later_not true taken least more le not = not
 later_not false taken least more le not = grind (arith, nat_tests)
 
 none_of : (most least : ℕ) (one : FeederProgress) (held : List Held) → has_come one least ≡ false → WaitLonger least held → WaitInTurn most held
-    → All (λ held. held.feeder ≡ 0 → is_due held.until.items (one ∷ []) ≡ false) held
+    → All (λ held. held.placed.feeder ≡ 0 → is_due held.until.items (one ∷ []) ≡ false) held
 none_of most least one [] not longer turn = All-nil _
 none_of most least one (held ∷ later) not longer turn =
-    All-cons (λ held. held.feeder ≡ 0 → is_due held.until.items (one ∷ []) ≡ false) held later
+    All-cons (λ held. held.placed.feeder ≡ 0 → is_due held.until.items (one ∷ []) ≡ false) held later
     (λ own. due_of one held.until.items turn.0 ∙ later_not one.over one.taken least (least_of held) (longer.0 own) not)
     (none_of most least one later not longer.1 turn.3)
 
 none_held : (most : ℕ) (one : FeederProgress) (held : List Held) → WaitInTurn most held → has_due held (one ∷ []) ≡ false
-    → All (λ held. held.feeder ≡ 0 → is_due held.until.items (one ∷ []) ≡ false) held
+    → All (λ held. held.placed.feeder ≡ 0 → is_due held.until.items (one ∷ []) ≡ false) held
 none_held most one [] turn not = All-nil _
 none_held most one (first ∷ later) turn not =
-    All-cons (λ held. held.feeder ≡ 0 → is_due held.until.items (one ∷ []) ≡ false) first later (λ own. not)
+    All-cons (λ held. held.placed.feeder ≡ 0 → is_due held.until.items (one ∷ []) ≡ false) first later (λ own. not)
     (none_of most (least_of first) one later (sym (due_of one first.until.items turn.0) ∙ not) turn.2 turn.3)
 
 pub none_due : (settle : ℕ) (progress : List FeederProgress) (one : FeederProgress) (held : List Held) → progress ≡ one ∷ [] → WaitInTurn (most_of settle one) held → has_due held progress ≡ false
-    → All (λ held. held.feeder ≡ 0 → is_due held.until.items progress ≡ false) held
+    → All (λ held. held.placed.feeder ≡ 0 → is_due held.until.items progress ≡ false) held
 none_due settle progress one held alone turn not =
-    subst (λ (list : List FeederProgress). All (λ held. held.feeder ≡ 0 → is_due held.until.items list ≡ false) held) (sym alone)
+    subst (λ (list : List FeederProgress). All (λ held. held.placed.feeder ≡ 0 → is_due held.until.items list ≡ false) held) (sym alone)
     (none_held (most_of settle one) one held turn (subst (λ (list : List FeederProgress). has_due held list ≡ false) alone not))

@@ -7,13 +7,12 @@ use Rattle.intervals.specs.declared.operation.RegId.{RegId}
 use Rattle.std.proofs.lemmas.List.{append-nil, append_assoc, map-append}
 use Rattle.std.proofs.lemmas.Bool.Decides.{nat_tests}
 use Rattle.std.proofs.lemmas.List.Elements.{filter-append}
-use Rattle.shards.specs.declared.entry.VerdictChange.{VerdictChange}
 use Rattle.logs.specs.declared.notice.Notice.{Notice}
-use Rattle.logs.specs.declared.notice.Notice.TheVariants.{Changed}
 use Rattle.watch.specs.declared.settling.Held.{Held}
+use Rattle.watch.specs.declared.settling.PlacedChange.{PlacedChange}
 use Rattle.watch.specs.Settling.{IsHeldBack, IsSettledUpTo, LessPairs, nothing, kept, healed, is_change_of, is_no_change, notices_of, says_fails}
 use Rattle.watch.specs.Teller.{IsPassedOn, ArePassedOn, IsWrittenOrHeld}
-use Rattle.watch.specs.Due.{held_notice, held_notices}
+use Rattle.watch.specs.Due.{held_notice, held_notices, notice_of}
 
 less_same : {A : Type 0} (fails : A → Bool) (all : List A) → LessPairs fails all all
 less_same fails [] = nothing
@@ -89,10 +88,10 @@ of_parts : (register : ℕ) (front back : List Notice) (one : Notice) (b : Bool)
 of_parts register front back one b is = filter-append (is_change_of register) front (one ∷ back) ∙ ap (λ (c : Bool). notices_of register front ++ cond c (one ∷ notices_of register back) (notices_of register back)) is
 
 -- a change of a register of which a failure is held back heals it
-pub passes_healed : (settle : ℕ) (held left front back : List Notice) (old : Held) (feeder place : ℕ) (change : VerdictChange) → held ≡ front ++ held_notice old ∷ back → left ≡ front ++ back
-    → old.change.register ≡ change.register → change.holds ≡ true → ArePassedOn settle held (Changed feeder place change ∷ []) [] left
-passes_healed settle held left front back old feeder place change held_is left_is same holds =
-    let notice = Changed feeder place change in record {
+pub passes_healed : (settle : ℕ) (held left front back : List Notice) (old : Held) (placed : PlacedChange) → held ≡ front ++ held_notice old ∷ back → left ≡ front ++ back
+    → old.placed.change.register ≡ placed.change.register → placed.change.holds ≡ true → ArePassedOn settle held (notice_of placed ∷ []) [] left
+passes_healed settle held left front back old placed held_is left_is same holds =
+    let notice = notice_of placed in record {
       at_once = λ zero empty. absurd (not_empty front back (held_notice old) (sym held_is ∙ empty));
       others = refl;
       by_register = λ register.
@@ -104,10 +103,10 @@ passes_healed settle held left front back old feeder place change held_is left_i
     }
 
 -- a failure of a register of which another one is held back is held back in its place
-pub passes_swapped : (settle : ℕ) (held left front back : List Notice) (old : Held) (feeder place : ℕ) (change : VerdictChange) → held ≡ front ++ held_notice old ∷ back → left ≡ (front ++ back) ++ Changed feeder place change ∷ []
-    → old.change.register ≡ change.register → change.holds ≡ false → ArePassedOn settle held (Changed feeder place change ∷ []) (held_notice old ∷ []) left
-passes_swapped settle held left front back old feeder place change held_is left_is same fails =
-    let notice = Changed feeder place change in record {
+pub passes_swapped : (settle : ℕ) (held left front back : List Notice) (old : Held) (placed : PlacedChange) → held ≡ front ++ held_notice old ∷ back → left ≡ (front ++ back) ++ notice_of placed ∷ []
+    → old.placed.change.register ≡ placed.change.register → placed.change.holds ≡ false → ArePassedOn settle held (notice_of placed ∷ []) (held_notice old ∷ []) left
+passes_swapped settle held left front back old placed held_is left_is same fails =
+    let notice = notice_of placed in record {
       at_once = λ zero empty. absurd (not_empty front back (held_notice old) (sym held_is ∙ empty));
       others = refl;
       by_register = λ register.

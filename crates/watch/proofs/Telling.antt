@@ -12,8 +12,8 @@ use Rattle.watch.specs.declared.run.Terms.{Terms}
 use Rattle.watch.specs.declared.settling.Held.{Held}
 use Rattle.watch.specs.declared.teller.TellerState.{TellerState}
 use Rattle.watch.specs.declared.teller.TellerState.TheVariants.{Going, Stopped, OutOfMemory, Unwritable}
-use Rattle.watch.specs.declared.teller.Unwritten.{Unwritten}
-use Rattle.watch.specs.declared.teller.Unwritten.TheVariants as unwritten
+use Rattle.watch.specs.declared.printer.Unwritten.{Unwritten}
+use Rattle.watch.specs.declared.printer.Unwritten.TheVariants as unwritten
 use Rattle.watch.specs.Settling.{LessPairs, nothing, notices_of, says_fails}
 use Rattle.watch.specs.Teller.{AreWrittenIn, HasTold, ArePassedOn, IsStateAfter, IsTold, IsToldAll, IsWritten, IsWrittenOrHeld, state_after}
 use Rattle.watch.specs.Due.{held_notice, held_notices}
@@ -165,23 +165,23 @@ written_on terms registers held rest left state old mid new going before more =
     subst (λ (s : TellerState). (first : List Held) × (held ≡ first ++ left) × IsWritten terms registers (held_notices first) s old new) going (written_next terms registers held rest left state old mid new before more)
 
 -- what was held back first was written by a teller that went on
-pub told_due_by : (terms own : Terms) (registers here : List Register) (before now new : Option (List ℕ)) (told : List Notice) (held left : List Held) (state_then state : TellerState) → own ≡ terms → here ≡ registers → state_then ≡ Going
+pub told_due_by : (terms : Terms) (registers : List Register) (before now new : Option (List ℕ)) (told : List Notice) (held left : List Held) (state_then state : TellerState) → state_then ≡ Going
     → IsTold terms registers before now told (held_notices held) state_then
-    → ((first : List Held) × (held ≡ first ++ left) × IsWritten own here (held_notices first) state now new)
+    → ((first : List Held) × (held ≡ first ++ left) × IsWritten terms registers (held_notices first) state now new)
     → IsTold terms registers before new told (held_notices left) state
-told_due_by terms own registers here before now new told held left state_then state t r going is wrote =
+told_due_by terms registers before now new told held left state_then state going is wrote =
     told_due terms registers before now new told held wrote.0 left state
-    (subst (λ (s : TellerState). IsTold terms registers before now told (held_notices held) s) going is) wrote.1 (rw (sym t, sym r) wrote.2)
+    (subst (λ (s : TellerState). IsTold terms registers before now told (held_notices held) s) going is) wrote.1 wrote.2
 
 -- a notice was taken by a teller that went on
-pub told_more : (terms own : Terms) (registers here : List Register) (before now new : Option (List ℕ)) (told held told_then left : List Notice) (notice : Notice) (state_then state : TellerState) → own ≡ terms → here ≡ registers → state_then ≡ Going
+pub told_more : (terms : Terms) (registers : List Register) (before now new : Option (List ℕ)) (told held told_then left : List Notice) (notice : Notice) (state_then state : TellerState) → state_then ≡ Going
     → IsTold terms registers before now told held state_then
     → (HasTold state → told_then ≡ told ++ notice ∷ [])
-    → ((written : List Notice) × IsWritten own here written state now new × (HasTold state → ArePassedOn own.settle held (notice ∷ []) written left))
+    → ((written : List Notice) × IsWritten terms registers written state now new × (HasTold state → ArePassedOn terms.settle held (notice ∷ []) written left))
     → IsTold terms registers before new told_then left state
-told_more terms own registers here before now new told held told_then left notice state_then state t r going is adds wrote =
+told_more terms registers before now new told held told_then left notice state_then state going is adds wrote =
     told_on terms registers before now new told held told_then left (notice ∷ []) wrote.0 state
-    (subst (λ (s : TellerState). IsTold terms registers before now told held s) going is) (rw (sym t, sym r) wrote.1) adds (λ has. rw (sym t) (wrote.2 has))
+    (subst (λ (s : TellerState). IsTold terms registers before now told held s) going is) wrote.1 adds wrote.2
 
 pub not_going : (state : TellerState) → (state ≡ Stopped) ⊎ ((state ≡ OutOfMemory) ⊎ (state ≡ Unwritable)) → state ≡ Going → ⊥
 not_going state (inl is) going = absurd (cc)

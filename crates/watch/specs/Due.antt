@@ -8,6 +8,7 @@ use Rattle.watch.specs.declared.settling.Advance.{Advance}
 use Rattle.watch.specs.declared.settling.Advance.TheVariants.{Took, Over}
 use Rattle.watch.specs.declared.settling.Held.{Held}
 use Rattle.watch.specs.declared.settling.FeederProgress.{FeederProgress}
+use Rattle.watch.specs.declared.settling.PlacedChange.{PlacedChange}
 use Rattle.watch.specs.Settling.{says_fails}
 
 -- how far a feeder has come when it took one more element, or is over
@@ -49,7 +50,7 @@ most_of settle one = at_most_u64 (at_most_u64 (one.taken + 1) + settle)
 -- what is held back of the first feeder waits for so many elements of it, or more
 abbrev pub WaitLonger : ℕ → List Held → Type 0
 WaitLonger least [] = Unit {0}
-WaitLonger least (held ∷ later) = (held.feeder ≡ 0 → least ≤ least_of held) × WaitLonger least later
+WaitLonger least (held ∷ later) = (held.placed.feeder ≡ 0 → least ≤ least_of held) × WaitLonger least later
 
 -- each waits for one feeder alone, for so many elements of it at most; and what came later, of that feeder, no shorter
 abbrev pub WaitInTurn : ℕ → List Held → Type 0
@@ -63,14 +64,18 @@ has_due (first ∷ held) progress = is_due first.until.items progress
 
 -- whether what is held back is of another register than the one of which this notice tells a change
 abbrev pub is_of_another : Notice → Held → Bool
-is_of_another (Changed feeder place change) held = not (held.change.register.0 == change.register.0)
+is_of_another (Changed feeder place change) held = not (held.placed.change.register.0 == change.register.0)
 is_of_another (Refused feeder place code) held = true
 is_of_another (Broke feeder broken) held = true
 is_of_another (Ended feeder elements) held = true
 
+-- the notice of a change
+abbrev pub notice_of : PlacedChange → Notice
+notice_of placed = Changed placed.feeder placed.place placed.change
+
 -- the notice of a change that is held back
 abbrev pub held_notice : Held → Notice
-held_notice held = Changed held.feeder held.place held.change
+held_notice held = notice_of held.placed
 
 -- the notices of changes that are held back, in order
 abbrev pub held_notices : List Held → List Notice
@@ -86,7 +91,7 @@ pub record AreHeldFrom (progress : List FeederProgress) (settle : ℕ) (notice :
   pub all_left : All (Contains before) left
   pub others_left : filter (is_of_another notice) before ≡ filter (is_of_another notice) left
   pub in_order : (left ≡ before) ⊎ ((front : List Held) × (back : List Held) × (one : Held) × (before ≡ front ++ one ∷ back) × (left ≡ front ++ back))
-  pub waits : All (λ held. (is_of_another notice held ≡ false) × (held.until.items ≡ until_of progress settle held.feeder)) new
+  pub waits : All (λ held. (is_of_another notice held ≡ false) × (held.until.items ≡ until_of progress settle held.placed.feeder)) new
   pub failure : settle ≢ 0 → says_fails notice ≡ true → held_notices new ≡ notice ∷ []
 
 -- those that were held back first, each of them due, are not held back any longer

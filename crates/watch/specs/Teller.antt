@@ -8,8 +8,8 @@ use Rattle.watch.specs.declared.settling.Held.{Held}
 use Rattle.watch.specs.declared.settling.FeederProgress.{FeederProgress}
 use Rattle.watch.specs.declared.teller.TellerState.{TellerState}
 use Rattle.watch.specs.declared.teller.TellerState.TheVariants.{Going, Stopped, OutOfMemory, Unwritable}
-use Rattle.watch.specs.declared.teller.Unwritten.{Unwritten}
-use Rattle.watch.specs.declared.teller.Unwritten.TheVariants as unwritten
+use Rattle.watch.specs.declared.printer.Unwritten.{Unwritten}
+use Rattle.watch.specs.declared.printer.Unwritten.TheVariants as unwritten
 use Rattle.watch.specs.Due.{WaitInTurn, has_due, most_of}
 use Rattle.watch.specs.Settling.{AreWrittenOf, IsHeldBack, IsSettledUpTo, is_no_change, notices_of, says_fails}
 use Rattle.watch.specs.Text.{text_of_notices}

@@ -1,7 +1,7 @@
 //! Watches registers while their traces are read: a notice is written, and flushed, as soon as a verdict changes, an
 //! element is refused, or a trace breaks or ends.
 //!
-//!     let watched = watch_readers(rt, alloc, &tower, readers, &pages, &terms, &mut out)?
+//!     let watched = watch_readers(rt, &tower, readers, &pages, &terms, &mut out)?
 //!
 //! `specs/Watched.antt` says what was written when a watch is over. A teller has the output under a lock of its own,
 //! which is taken after that of a shard: so an output that waits slows the feeders. Its invariant says that the output
@@ -17,6 +17,7 @@ mod fault;
 pub mod laws;
 mod live;
 mod noted;
+mod printer;
 mod run;
 mod same;
 mod settling;

@@ -1,7 +1,8 @@
 //! The watcher of a run, which tells what it is told.
 
+use crate::printer::Beginning;
 use crate::settling::Advance;
-use crate::teller::{Beginning, Teller};
+use crate::teller::Teller;
 use feeders::Watcher;
 use logs::Notice;
 use shards::Gate;

@@ -16,11 +16,12 @@ use crate::compare::are_told;
 use crate::fault::WatchFault;
 use crate::live::Live;
 use crate::noted::are_noted;
+use crate::printer::{Beginning, Output, Printer};
 use crate::settling::{FeederProgress, at_the_beginning};
 use crate::stoppable::stopped_by;
-use crate::teller::{Beginning, Output, Teller, TellerState};
+use crate::teller::{Teller, TellerState};
 use crate::text::NoticeForm;
-use feeders::{Pages, RunFault, run_readers};
+use feeders::{Pages, RunFault, Setup, run_readers};
 use jepsen_form::MomentField;
 use logs::{Notice, Run};
 use std::alloc::{AllocError, Global};
@@ -57,9 +58,13 @@ pub struct Watched<'t> {
 /// feeder has taken `settle` more elements or is over, and not before one that failed earlier; where it holds again
 /// before, neither has one. A feeder that waits in a read call is not woken: where the watch is over its thread ends
 /// when that call returns.
-pub fn watch_readers<'t, R: Threads + Wait + Sync, S: Read + Drop + Send, W: Write + Send>(
+pub fn watch_readers<
+    't,
+    R: AllocGlobal + Threads + Wait + Sync,
+    S: Read + Drop + Send,
+    W: Write + Send,
+>(
     rt: &R,
-    alloc: Global,
     tower: &'t Tower,
     readers: Vec<S>,
     pages: &'t Pages,
@@ -71,20 +76,30 @@ pub fn watch_readers<'t, R: Threads + Wait + Sync, S: Read + Drop + Send, W: Wri
     ensures watched { IfOk result (λ watched. IsWatched tower.now terms.now (map S.remaining readers.items) watched.run.closed watched.run.logs.items watched.stopped (W.contents out.old) (W.contents out.new)) }
     ensures whole { IfErr result (λ fault. fault ≢ WatchFault.Write → (notices : List ANotice) × Appends (W.contents out.old) (W.contents out.new) (text_of_notices terms.now.form tower.now.registers notices)) }
 {
-    let progress = begun(alloc, terms.settle, readers.len())?;
+    let progress = begun(rt.alloc(), terms.settle, readers.len())?;
+    let start = Start {
+        tower,
+        terms: *terms,
+        progress,
+    };
     let mut outcome = Err(WatchFault::Memory);
     let _output = watch_in::<R, S, W, Brand>(
         rt,
-        alloc,
-        tower,
         readers,
         pages,
-        terms,
-        progress,
+        start,
         Output { out },
         &mut outcome,
     );
     outcome
+}
+
+/// What is watched and how, and how far each feeder has come.
+#[derive(Drop)]
+struct Start<'t> {
+    tower: &'t Tower,
+    terms: Terms,
+    progress: Vec<FeederProgress>,
 }
 
 /// Feeders that have taken nothing; none are wanted where no failure is held back.
@@ -102,35 +117,37 @@ fn begun(alloc: Global, settle: u64, feeders: usize) -> Result<Vec<FeederProgres
 fn watch_in<
     'a,
     't,
-    R: Threads + Wait + Sync,
+    R: AllocGlobal + Threads + Wait + Sync,
     S: Read + Drop + Send,
     W: Write + Send,
     B: Beginning + Send + Sync,
 >(
     rt: &R,
-    alloc: Global,
-    tower: &'t Tower,
     readers: Vec<S>,
     pages: &'t Pages,
-    terms: &Terms,
-    progress: Vec<FeederProgress>,
+    start: Start<'t>,
     output: Output<'a, W>,
     outcome: &mut Result<Watched<'t>, WatchFault>,
 ) -> Output<'a, W>
     requires readers { (1 ≤ vec_len readers) × (vec_len readers ≤ 256) }
-    requires shards { (1 ≤ terms.now.shards) × (terms.now.shards ≤ 64) }
+    requires shards { (1 ≤ start.terms.shards) × (start.terms.shards ≤ 64) }
     requires output { output.out.ghost_name ≡ B.output }
     requires before { W.contents output.out.now ≡ B.before }
-    requires registers { tower.now.registers ≡ B.registers }
-    requires terms { terms.now ≡ B.terms }
+    requires registers { start.tower.now.registers ≡ B.registers }
+    requires terms { start.terms ≡ B.terms }
     ensures same_reference { result.out.ghost_name ≡ output.entry.out.ghost_name }
-    ensures watched { IfOk outcome.new (λ watched. IsWatched tower.now terms.now (map S.remaining readers.items) watched.run.closed watched.run.logs.items watched.stopped B.before (W.contents result.out.now)) }
-    ensures whole { IfErr outcome.new (λ fault. fault ≢ WatchFault.Write → (notices : List ANotice) × Appends B.before (W.contents result.out.now) (text_of_notices terms.now.form tower.now.registers notices)) }
+    ensures watched { IfOk outcome.new (λ watched. IsWatched start.entry.tower.now start.entry.terms (map S.remaining readers.items) watched.run.closed watched.run.logs.items watched.stopped B.before (W.contents result.out.now)) }
+    ensures whole { IfErr outcome.new (λ fault. fault ≢ WatchFault.Write → (notices : List ANotice) × Appends B.before (W.contents result.out.now) (text_of_notices start.entry.terms.form start.entry.tower.now.registers notices)) }
 {
-    let teller: Mutex<Teller<'a, 't, W, B>> = Mutex::new(Teller::new(
-        alloc, tower, *terms, progress, output,
-    ));
-    let run = run_told(rt, alloc, tower, readers, pages, terms, &teller);
+    let Start {
+        tower,
+        terms,
+        progress,
+    } = start;
+    let alloc = rt.alloc();
+    let printer = Printer::new(alloc, tower, terms, output);
+    let teller: Mutex<Teller<'a, 't, W, B>> = Mutex::new(Teller::new(alloc, printer, progress));
+    let run = run_told(rt, tower, readers, pages, &terms, &teller);
     let finished = run.is_ok();
     let told = teller.into_inner().end(finished);
     *outcome = concluded(run, told.told.as_slice(), told.state, terms.shards);
@@ -141,13 +158,12 @@ fn watch_in<
 fn run_told<
     'a,
     't,
-    R: Threads + Wait + Sync,
+    R: AllocGlobal + Threads + Wait + Sync,
     S: Read + Drop + Send,
     W: Write + Send,
     B: Beginning + Send + Sync,
 >(
     rt: &R,
-    alloc: Global,
     tower: &'t Tower,
     readers: Vec<S>,
     pages: &'t Pages,
@@ -158,19 +174,18 @@ fn run_told<
     requires shards { (1 ≤ terms.now.shards) × (terms.now.shards ≤ 64) }
     ensures run { IfOk result (λ run. (traces : List (List ℕ)) × AreReadOf (map S.remaining readers.items) run.logs.items traces × IsRun tower.now terms.now.field terms.now.shards traces run.closed run.logs.items) }
 {
+    let alloc = rt.alloc();
     let over = AtomicBool::new(false);
     let live = Live::new(rt, teller, &over, terms.settle != 0);
     let readers = stopped_by(alloc, readers, &over)?;
-    run_readers(
+    let setup = Setup {
         rt,
         alloc,
         tower,
-        readers,
-        pages,
-        terms.field,
-        terms.shards,
-        &live,
-    )
+        field: terms.field,
+        shards: terms.shards,
+    };
+    run_readers(setup, readers, pages, &live)
 }
 
 /// What a watch leaves, given its run and what was told of it; or why it broke off.

@@ -2,10 +2,9 @@
 
 ghost use Rattle.std.specs.Prelude.{◌≡◌, ◌++◌, ◌∷◌, [], List, IfOk, IfSome, IsNone, OnOk, false, replicate};
 ghost use Rattle.std.specs.Option.{option_to_list};
-ghost use Rattle.logs.specs.declared.notice.Notice.TheVariants.{Changed};
 ghost use Rattle.watch.specs.Settling.{notices_of};
 ghost use Rattle.watch.specs.declared.settling.Held.{Held as AHeld};
-ghost use Rattle.watch.specs.Due.{AreHeldFrom, advanced, advanced_at, has_come, is_due, until_of, held_notice, held_notices};
+ghost use Rattle.watch.specs.Due.{AreHeldFrom, advanced, advanced_at, has_come, is_due, until_of, held_notice, held_notices, notice_of};
 ghost use Rattle.watch.specs.Teller.{ArePassedOn};
 
 use intervals::RegId;
@@ -31,12 +30,30 @@ pub enum Advance {
     Over,
 }
 
-/// A change to `fails` that is held back.
-#[derive(Drop)]
-pub struct Held {
+/// A change, with the place of the element whose edit made it.
+#[derive(Clone, Copy)]
+pub struct PlacedChange {
     pub feeder: u32,
     pub place: u64,
     pub change: VerdictChange,
+}
+
+impl PlacedChange {
+    fn notice(self) -> Notice
+        ensures { result ≡ notice_of self }
+    {
+        Notice::Changed {
+            feeder: self.feeder,
+            place: self.place,
+            change: self.change,
+        }
+    }
+}
+
+/// A change to `fails` that is held back.
+#[derive(Drop)]
+pub struct Held {
+    placed: PlacedChange,
     /// How many elements each feeder is to have taken, or to be over, before it is written.
     until: Vec<u64>,
 }
@@ -46,11 +63,7 @@ impl Held {
     pub fn notice(&self) -> Notice
         ensures { result ≡ held_notice self.now }
     {
-        Notice::Changed {
-            feeder: self.feeder,
-            place: self.place,
-            change: self.change,
-        }
+        self.placed.notice()
     }
 
     /// Whether each feeder has come as far as it is waited for.
@@ -127,7 +140,14 @@ pub fn passed_on(
             feeder,
             place,
             change,
-        } => change_passed_on(alloc, held, progress, settle, feeder, place, change),
+        } => {
+            let placed = PlacedChange {
+                feeder,
+                place,
+                change,
+            };
+            change_passed_on(alloc, held, progress, settle, placed)
+        }
         Notice::Refused { .. } | Notice::Broke { .. } | Notice::Ended { .. } => Ok(Some(notice)),
     }
 }
@@ -139,30 +159,25 @@ fn change_passed_on(
     held: &mut Vec<Held>,
     progress: &[FeederProgress],
     settle: u64,
-    feeder: u32,
-    place: u64,
-    change: VerdictChange,
+    placed: PlacedChange,
 ) -> Result<Option<Notice>, AllocError>
-    ensures passed_on { IfOk result (λ now. ArePassedOn settle (held_notices held.old.items) (Changed feeder place change ∷ []) (option_to_list now) (held_notices held.new.items)) }
-    ensures held { OnOk result (AreHeldFrom progress.now settle (Changed feeder place change) held.old.items held.new.items) }
+    ensures passed_on { IfOk result (λ now. ArePassedOn settle (held_notices held.old.items) (notice_of placed ∷ []) (option_to_list now) (held_notices held.new.items)) }
+    ensures held { OnOk result (AreHeldFrom progress.now settle (notice_of placed) held.old.items held.new.items) }
 {
+    let change = placed.change;
     match taken_out(held, change.register) {
         Some(before) => {
             if change.holds {
                 return Ok(None);
             }
-            hold(alloc, held, progress, settle, feeder, place, change)?;
+            hold(alloc, held, progress, settle, placed)?;
             Ok(Some(before.notice()))
         }
         None => {
             if change.holds || settle == 0 {
-                return Ok(Some(Notice::Changed {
-                    feeder,
-                    place,
-                    change,
-                }));
+                return Ok(Some(placed.notice()));
             }
-            hold(alloc, held, progress, settle, feeder, place, change)?;
+            hold(alloc, held, progress, settle, placed)?;
             Ok(None)
         }
     }
@@ -170,11 +185,11 @@ fn change_passed_on(
 
 /// Takes the change of this register out of those that are held back, where there is one.
 fn taken_out(held: &mut Vec<Held>, register: RegId) -> Option<Held>
-    ensures some { IfSome result (λ one. (front back : List AHeld) × (held.old.items ≡ front ++ one ∷ back) × (held.new.items ≡ front ++ back) × (one.change.register ≡ register)) }
+    ensures some { IfSome result (λ one. (front back : List AHeld) × (held.old.items ≡ front ++ one ∷ back) × (held.new.items ≡ front ++ back) × (one.placed.change.register ≡ register)) }
     ensures none { IsNone result → (held.new.items ≡ held.old.items) × (notices_of register.0 (held_notices held.old.items) ≡ []) }
 {
     for at in 0..held.len() {
-        if held[at].change.register == register {
+        if held[at].placed.change.register == register {
             return Some(held.remove(at));
         }
     }
@@ -187,20 +202,13 @@ fn hold(
     held: &mut Vec<Held>,
     progress: &[FeederProgress],
     settle: u64,
-    feeder: u32,
-    place: u64,
-    change: VerdictChange,
+    placed: PlacedChange,
 ) -> Result<(), AllocError>
-    ensures held { OnOk result (held_notices held.new.items ≡ held_notices held.old.items ++ Changed feeder place change ∷ []) }
-    ensures until { OnOk result ((one : AHeld) × (held.new.items ≡ held.old.items ++ one ∷ []) × (held_notice one ≡ Changed feeder place change) × (one.until.items ≡ until_of progress.now settle one.feeder)) }
+    ensures held { OnOk result (held_notices held.new.items ≡ held_notices held.old.items ++ notice_of placed ∷ []) }
+    ensures until { OnOk result ((one : AHeld) × (held.new.items ≡ held.old.items ++ one ∷ []) × (held_notice one ≡ notice_of placed) × (one.until.items ≡ until_of progress.now settle one.placed.feeder)) }
 {
-    let until = until_settled(alloc, progress, settle, feeder)?;
-    held.push(Held {
-        feeder,
-        place,
-        change,
-        until,
-    })?;
+    let until = until_settled(alloc, progress, settle, placed.feeder)?;
+    held.push(Held { placed, until })?;
     Ok(())
 }
 

@@ -19,7 +19,6 @@ use Rattle.words.specs.Words.{AskedWatch}
 use Rattle.command_parts.specs.declared.fault.CommandFault.{CommandFault}
 use Rattle.command_parts.specs.declared.fault.CommandFault.TheVariants.{Memory, Unwritable, Shard, Untold}
 use Rattle.command_parts.specs.Status.{IsStatus}
-use Rattle.command_parts.specs.Job.{chosen_field}
 
 -- how notices are written
 abbrev pub notice_form : LineForm → NoticeForm
@@ -28,7 +27,7 @@ notice_form Json = Record
 
 -- how the registers are watched
 abbrev pub watch_terms : AskedWatch → Terms
-watch_terms asked = record { field = chosen_field asked.moments; shards = asked.shards; form = notice_form asked.form; until_fail = asked.until_fail; settle = asked.settle }
+watch_terms asked = record { field = asked.moments; shards = asked.shards; form = notice_form asked.form; until_fail = asked.until_fail; settle = asked.settle }
 
 -- the fault of a command whose watch broke off
 abbrev pub unfollowed : WatchFault → CommandFault

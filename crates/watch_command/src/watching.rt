@@ -5,10 +5,7 @@ ghost use Rattle.words.specs.Words.{asked_watch};
 ghost use Rattle.command_parts.specs.Files.{AreHeld};
 ghost use Rattle.watch_command.specs.Watching.{HasWholeNotices, IsFollowed, IsWatchStatus, notice_form, unfollowed, watch_terms};
 
-use command_parts::{
-    CommandFault, Files, TRACE_LIMIT, field_of, open_files, read_tower, status_after,
-};
-use feeders::Pages;
+use command_parts::{CommandFault, Files, OpenedRun, open_run, status_after};
 use std::alloc::{AllocError, Global};
 use std::io::Write;
 use std::mem::forget;
@@ -33,17 +30,15 @@ pub fn follow<'a, A: AllocGlobal + Threads + Wait + Sync, F: Files, W: Write + S
         → IsFollowed (asked_watch asked.entry.now) file traces status (W.contents out.old) (W.contents out.new))) }
     ensures whole { IfErr result (λ fault. fault ≢ CommandFault.Unwritable → HasWholeNotices (asked_watch asked.entry.now) (F.held files.old asked.entry.now.tower.now) (W.contents out.old) (W.contents out.new)) }
 {
-    if asked.traces.len() > TRACE_LIMIT {
-        return Err(CommandFault::TooManyTraces);
-    }
     let alloc = rt.alloc();
-    let tower = read_tower(alloc, files, asked.tower)?;
-    let readers = open_files(alloc, files, &asked.traces)?;
-    let Ok(pages) = Pages::new(alloc) else {
-        return Err(CommandFault::Memory);
-    };
+    let OpenedRun {
+        tower,
+        readers,
+        pages,
+        ..
+    } = open_run(alloc, files, asked.tower, None, &asked.traces)?;
     let terms = watch_terms(asked);
-    let watched = match watch_readers(rt, alloc, &tower, readers, &pages, &terms, out) {
+    let watched = match watch_readers(rt, &tower, readers, &pages, &terms, out) {
         Ok(watched) => watched,
         Err(fault) => return Err(unfollowed(fault)),
     };
@@ -73,7 +68,7 @@ fn watch_terms(asked: &Watch<'_>) -> Terms
     ensures { result ≡ watch_terms (asked_watch asked.now) }
 {
     Terms {
-        field: field_of(asked.moments),
+        field: asked.moments,
         shards: asked.shards,
         form: notice_form(asked.form),
         until_fail: asked.until_fail,

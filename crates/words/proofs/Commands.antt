@@ -7,7 +7,7 @@ use Rattle.std.proofs.lemmas.List.{length-map}
 use Rattle.clap.specs.Words.{App, HasMatchesOf, Row, Text, first_of, found_of, is_simple, rows_of, subcommand_of, subcommand_rows_of, subcommand_name_of}
 use Rattle.clap.specs.declared.ArgMatches.{ArgMatches}
 use Rattle.words.specs.declared.check.ReportForm.{ReportForm}
-use Rattle.words.specs.declared.check.MomentKey.{MomentKey}
+use Rattle.jepsen_form.specs.declared.item.MomentField.{MomentField}
 use Rattle.words.specs.declared.lint.LintForm.{LintForm}
 use Rattle.words.specs.declared.show.Picture.{Picture}
 use Rattle.words.specs.declared.show.ThemeWord.{ThemeWord}
@@ -36,7 +36,7 @@ pub asks_command : (matches found : ArgMatches) (name : Text) (asked : Option As
 asks_command matches found name asked named has is = rw (entered matches name (rows_of (found_of found)) named has) is
 
 -- a check whose arguments are all there
-pub is_check : (rows : List Row) (tower : Text) (shards : ℕ) (moments : MomentKey) (order : Option Text) (form : ReportForm) (only_failing : Bool) (least least_each : ℕ) (traces : List Text) → first_of (codes "tower") rows ≡ Some tower → Some shards ≡ said_in shards_in (codes "shards") rows
+pub is_check : (rows : List Row) (tower : Text) (shards : ℕ) (moments : MomentField) (order : Option Text) (form : ReportForm) (only_failing : Bool) (least least_each : ℕ) (traces : List Text) → first_of (codes "tower") rows ≡ Some tower → Some shards ≡ said_in shards_in (codes "shards") rows
     → Some moments ≡ said_in moments_in (codes "moment") rows → first_of (codes "order") rows ≡ order → Some form ≡ said_in form_in (codes "as") rows → Some only_failing ≡ only_by form rows → Some least ≡ said_in count_in (codes "least") rows → Some least_each ≡ said_in count_in (codes "least-each") rows
     → traces ≡ traces_in rows → (length traces == 0) ≡ false
     → ◌≡◌ {A = Option AskedCheck} (Some (record { tower = tower; shards = shards; moments = moments; order = order; form = form; only_failing = only_failing; least = least; least_each = least_each; traces = traces })) (check_by rows)
@@ -47,7 +47,7 @@ pub no_tower : (rows : List Row) → first_of (codes "tower") rows ≡ None → 
 no_tower rows none = rw none refl
 
 -- a watch whose arguments are all there
-pub is_watch : (rows : List Row) (tower : Text) (moments : MomentKey) (shards : ℕ) (form : LineForm) (until_fail : Bool) (settle : ℕ) (traces : List Text) → first_of (codes "tower") rows ≡ Some tower → Some moments ≡ said_in moments_in (codes "moment") rows
+pub is_watch : (rows : List Row) (tower : Text) (moments : MomentField) (shards : ℕ) (form : LineForm) (until_fail : Bool) (settle : ℕ) (traces : List Text) → first_of (codes "tower") rows ≡ Some tower → Some moments ≡ said_in moments_in (codes "moment") rows
     → Some shards ≡ said_in shards_in (codes "shards") rows → Some form ≡ said_in line_form_in (codes "as") rows → until_fail ≡ is_set (codes "until-fail") rows
     → Some settle ≡ said_in count_in (codes "settle") rows → traces ≡ traces_in rows → (length traces == 0) ≡ false
     → ◌≡◌ {A = Option AskedWatch} (Some (record { tower = tower; shards = shards; moments = moments; form = form; until_fail = until_fail; settle = settle; traces = traces })) (watch_by rows)
@@ -58,7 +58,7 @@ pub no_tower_to_watch : (rows : List Row) → first_of (codes "tower") rows ≡ 
 no_tower_to_watch rows none = rw none refl
 
 -- a picture whose arguments are all there
-pub is_show : (rows : List Row) (tower : Text) (moments : MomentKey) (register : Option Text) (picture : Picture) (around : ℕ) (all : Bool) (width : Option ℕ) (theme : ThemeWord) (traces : List Text) → first_of (codes "tower") rows ≡ Some tower → Some moments ≡ said_in moments_in (codes "moment") rows
+pub is_show : (rows : List Row) (tower : Text) (moments : MomentField) (register : Option Text) (picture : Picture) (around : ℕ) (all : Bool) (width : Option ℕ) (theme : ThemeWord) (traces : List Text) → first_of (codes "tower") rows ≡ Some tower → Some moments ≡ said_in moments_in (codes "moment") rows
     → first_of (codes "register") rows ≡ register → Some picture ≡ picture_by rows → Some around ≡ said_in count_in (codes "around") rows → all ≡ is_set (codes "all") rows → width ≡ said_in count_in (codes "width") rows → Some theme ≡ said_in theme_in (codes "theme") rows
     → traces ≡ traces_in rows → (length traces == 0) ≡ false
     → ◌≡◌ {A = Option AskedShow} (Some (record { tower = tower; moments = moments; register = register; picture = picture; around = around; all = all; width = width; theme = theme; traces = traces })) (show_by rows)
@@ -75,14 +75,14 @@ emptiness None lent held found is lent_is found_is is_is = rw (length-map, ← l
 emptiness (Some name) lent held found is lent_is found_is is_is = sym found_is ∙ is_is
 
 -- a look through a tower file or traces
-pub is_lint : (rows : List Row) (tower : Option Text) (moments : MomentKey) (form : LintForm) (most : ℕ) (denied : Option Text) (traces : List Text) → first_of (codes "tower") rows ≡ tower → Some moments ≡ said_in moments_in (codes "moment") rows
+pub is_lint : (rows : List Row) (tower : Option Text) (moments : MomentField) (form : LintForm) (most : ℕ) (denied : Option Text) (traces : List Text) → first_of (codes "tower") rows ≡ tower → Some moments ≡ said_in moments_in (codes "moment") rows
     → Some form ≡ said_in lint_form_in (codes "as") rows → Some most ≡ said_in count_in (codes "max") rows → first_of (codes "deny") rows ≡ denied → traces ≡ traces_in rows → (is_none tower && length traces == 0) ≡ false
     → ◌≡◌ {A = Option AskedLint} (Some (record { tower = tower; moments = moments; form = form; most = most; denied = denied; traces = traces })) (lint_by rows)
 is_lint rows tower moments form most denied traces tower_is moments_is form_is most_is denied_is traces_are some =
     rw (← moments_is, ← form_is, ← most_is, ← traces_are, tower_is, some, denied_is) refl
 
 -- no look where neither is named
-pub is_no_lint : (rows : List Row) (tower : Option Text) (moments : MomentKey) (form : LintForm) (most : ℕ) (traces : List Text) → first_of (codes "tower") rows ≡ tower → Some moments ≡ said_in moments_in (codes "moment") rows
+pub is_no_lint : (rows : List Row) (tower : Option Text) (moments : MomentField) (form : LintForm) (most : ℕ) (traces : List Text) → first_of (codes "tower") rows ≡ tower → Some moments ≡ said_in moments_in (codes "moment") rows
     → Some form ≡ said_in lint_form_in (codes "as") rows → Some most ≡ said_in count_in (codes "max") rows → traces ≡ traces_in rows → (is_none tower && length traces == 0) ≡ true
     → ◌≡◌ {A = Option AskedLint} None (lint_by rows)
 is_no_lint rows tower moments form most traces tower_is moments_is form_is most_is traces_are none =

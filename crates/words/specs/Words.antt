@@ -12,8 +12,8 @@ use Rattle.clap.specs.declared.builder.value_parser.ValueParser.TheVariants as p
 use Rattle.words.specs.declared.check.Check.{Check as HeldCheck}
 use Rattle.words.specs.declared.check.ReportForm.{ReportForm}
 use Rattle.words.specs.declared.check.ReportForm.TheVariants.{Report, Summary, Json, Edn}
-use Rattle.words.specs.declared.check.MomentKey.{MomentKey}
-use Rattle.words.specs.declared.check.MomentKey.TheVariants.{Index, Time}
+use Rattle.jepsen_form.specs.declared.item.MomentField.{MomentField}
+use Rattle.jepsen_form.specs.declared.item.MomentField.TheVariants.{Index, Time}
 use Rattle.words.specs.declared.lint.Lint.{Lint as HeldLint}
 use Rattle.words.specs.declared.lint.LintForm.{LintForm}
 use Rattle.words.specs.declared.lint.LintForm.TheVariants as lint_forms
@@ -185,7 +185,7 @@ command_line = with_subcommand (with_texts (with_files (with_audits program_line
 pub record AskedCheck : Type 0 where
   pub tower : Text
   pub shards : ℕ
-  pub moments : MomentKey
+  pub moments : MomentField
   pub order : Option Text
   pub form : ReportForm
   pub only_failing : Bool
@@ -197,7 +197,7 @@ pub record AskedCheck : Type 0 where
 pub record AskedWatch : Type 0 where
   pub tower : Text
   pub shards : ℕ
-  pub moments : MomentKey
+  pub moments : MomentField
   pub form : LineForm
   pub until_fail : Bool
   pub settle : ℕ
@@ -206,7 +206,7 @@ pub record AskedWatch : Type 0 where
 -- what the words of `show` ask for
 pub record AskedShow : Type 0 where
   pub tower : Text
-  pub moments : MomentKey
+  pub moments : MomentField
   pub register : Option Text
   pub picture : Picture
   pub around : ℕ
@@ -218,7 +218,7 @@ pub record AskedShow : Type 0 where
 -- what the words of `lint` ask for
 pub record AskedLint : Type 0 where
   pub tower : Option Text
-  pub moments : MomentKey
+  pub moments : MomentField
   pub form : LintForm
   pub most : ℕ
   pub denied : Option Text
@@ -243,7 +243,7 @@ abbrev pub shards_in : Text → Option ℕ
 shards_in text = if is_unsigned_in 1 64 text then Some (digits_value 10 (without_leading_plus text)) else None
 
 -- the field of moments that a text names: `index` or `time`
-abbrev pub moments_in : Text → Option MomentKey
+abbrev pub moments_in : Text → Option MomentField
 moments_in text = if bytes_eq text (codes "index") then Some Index else (if bytes_eq text (codes "time") then Some Time else None)
 
 -- the form of a report that a text names: `text`, `summary`, `json` or `edn`
@@ -314,7 +314,7 @@ abbrev pub only_by : ReportForm → List Row → Option Bool
 only_by form rows = option_map_or (only_in form) (first_of (codes "only") rows) (Some false)
 
 -- what `check` asks for by these values and the other arguments; none where they name no trace
-abbrev pub check_of : Text → ℕ → MomentKey → ReportForm → Bool → ℕ → ℕ → List Row → Option AskedCheck
+abbrev pub check_of : Text → ℕ → MomentField → ReportForm → Bool → ℕ → ℕ → List Row → Option AskedCheck
 check_of tower shards moments form only_failing least least_each rows =
     if length (traces_in rows) == 0 then None
     else Some (record { tower = tower; shards = shards; moments = moments; order = first_of (codes "order") rows; form = form; only_failing = only_failing; least = least; least_each = least_each; traces = traces_in rows })
@@ -334,7 +334,7 @@ check_by rows =
     (first_of (codes "tower") rows)
 
 -- what `watch` asks for by these values and the other arguments; none where they name no trace
-abbrev pub watch_of : Text → MomentKey → ℕ → LineForm → ℕ → List Row → Option AskedWatch
+abbrev pub watch_of : Text → MomentField → ℕ → LineForm → ℕ → List Row → Option AskedWatch
 watch_of tower moments shards form settle rows =
     if length (traces_in rows) == 0 then None
     else Some (record { tower = tower; shards = shards; moments = moments; form = form; until_fail = is_set (codes "until-fail") rows; settle = settle; traces = traces_in rows })
@@ -355,7 +355,7 @@ abbrev pub picture_by : List Row → Option Picture
 picture_by rows = picture_in (is_set (codes "svg") rows) (is_set (codes "html") rows) (is_set (codes "ascii") rows)
 
 -- what `show` asks for by these values and the other arguments; none where they name no trace
-abbrev pub show_of : Text → MomentKey → Picture → ℕ → ThemeWord → List Row → Option AskedShow
+abbrev pub show_of : Text → MomentField → Picture → ℕ → ThemeWord → List Row → Option AskedShow
 show_of tower moments picture around theme rows =
     if length (traces_in rows) == 0 then None
     else Some (record { tower = tower; moments = moments; register = first_of (codes "register") rows; picture = picture; around = around; all = is_set (codes "all") rows; width = said_in count_in (codes "width") rows; theme = theme; traces = traces_in rows })
@@ -372,7 +372,7 @@ show_by rows =
     (first_of (codes "tower") rows)
 
 -- what `lint` asks for by these values and the other arguments; none where they name neither a tower file nor a trace
-abbrev pub lint_of : MomentKey → LintForm → ℕ → List Row → Option AskedLint
+abbrev pub lint_of : MomentField → LintForm → ℕ → List Row → Option AskedLint
 lint_of moments form most rows =
     if is_none (first_of (codes "tower") rows) && length (traces_in rows) == 0 then None
     else Some (record { tower = first_of (codes "tower") rows; moments = moments; form = form; most = most; denied = first_of (codes "deny") rows; traces = traces_in rows })

@@ -6,14 +6,8 @@ ghost use Rattle.clap.specs.Words.{found_of, rows_of};
 ghost use Rattle.words.specs.Words.{asked_check, check_by, count_in, form_in, has_records, moments_in, only_by, only_in, said_in, shards_in, traces_in};
 
 use clap::ArgMatches;
+use jepsen_form::MomentField;
 use std::alloc::{AllocError, Global};
-
-/// The field that holds an event's moment.
-#[derive(Clone, Copy)]
-pub enum MomentKey {
-    Index,
-    Time,
-}
 
 /// What is printed of a check.
 #[derive(Clone, Copy)]
@@ -47,7 +41,7 @@ pub struct Check<'a> {
     pub tower: &'a str,
     /// From 1 to 64.
     pub shards: u32,
-    pub moments: MomentKey,
+    pub moments: MomentField,
     /// The name of the register whose order is asked for.
     pub order: Option<&'a str>,
     pub form: ReportForm,
@@ -131,19 +125,19 @@ fn shards_in(text: &str) -> Option<u32>
     }
 }
 
-pub(crate) fn moments_of(found: &ArgMatches<'_>) -> Option<MomentKey>
+pub(crate) fn moments_of(found: &ArgMatches<'_>) -> Option<MomentField>
     ensures { result ≡ said_in moments_in (codes "moment") (rows_of (found_of found.now)) }
 {
     moments_in(found.get_str("moment")?)
 }
 
-fn moments_in(text: &str) -> Option<MomentKey>
+fn moments_in(text: &str) -> Option<MomentField>
     ensures { result ≡ moments_in text.now }
 {
     if text == "index" {
-        Some(MomentKey::Index)
+        Some(MomentField::Index)
     } else if text == "time" {
-        Some(MomentKey::Time)
+        Some(MomentField::Time)
     } else {
         None
     }

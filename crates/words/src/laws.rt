@@ -2,7 +2,7 @@
 
 ghost use Rattle.std.specs.Prelude.{◌≡◌, ◌++◌, true, false, [], ◌∷◌, Some, None, codes};
 ghost use Rattle.clap.specs.Words.{Text, takes};
-ghost use Rattle.words.specs.declared.check.MomentKey.TheVariants.{Index, Time};
+ghost use Rattle.jepsen_form.specs.declared.item.MomentField.TheVariants.{Index, Time};
 ghost use Rattle.words.specs.declared.check.ReportForm.TheVariants.{Report, Summary, Json, Edn};
 ghost use Rattle.words.specs.declared.completion.Shell.TheVariants.{Bash, Zsh, Fish};
 ghost use Rattle.words.specs.declared.lint.LintForm.TheVariants as lint_forms;

@@ -21,7 +21,7 @@
 //!     Ok(Command::Check(Check {
 //!         tower: "bits.edn",
 //!         shards: 1,
-//!         moments: MomentKey::Index,
+//!         moments: MomentField::Index,
 //!         order: None,
 //!         form: ReportForm::Report,
 //!         only_failing: false,
@@ -48,7 +48,7 @@ mod show;
 mod watch;
 mod words;
 
-pub use check::{Check, MomentKey, ReportForm};
+pub use check::{Check, ReportForm};
 pub use completion::Shell;
 pub use lint::{Lint, LintForm};
 pub use manual::help_of_all;

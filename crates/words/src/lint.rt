@@ -5,8 +5,9 @@ ghost use Rattle.std.specs.Option.{option_map};
 ghost use Rattle.clap.specs.Words.{found_of, rows_of};
 ghost use Rattle.words.specs.Words.{asked_lint, lint_by, lint_form_in, said_in};
 
-use crate::check::{MomentKey, count_of, moments_of, traces_of};
+use crate::check::{count_of, moments_of, traces_of};
 use clap::ArgMatches;
+use jepsen_form::MomentField;
 use std::alloc::{AllocError, Global};
 
 /// How findings are printed.
@@ -27,7 +28,7 @@ pub enum LintForm {
 pub struct Lint<'a> {
     /// The tower file; where there is none, the traces are of the one register of `safe`.
     pub tower: Option<&'a str>,
-    pub moments: MomentKey,
+    pub moments: MomentField,
     pub form: LintForm,
     /// How many of each code are shown, or 0 for all.
     pub most: u64,

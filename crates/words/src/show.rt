@@ -5,8 +5,9 @@ ghost use Rattle.std.specs.Option.{option_map};
 ghost use Rattle.clap.specs.Words.{found_of, rows_of};
 ghost use Rattle.words.specs.Words.{asked_show, is_set, picture_by, picture_in, said_in, show_by, theme_in};
 
-use crate::check::{MomentKey, count_of, moments_of, traces_of};
+use crate::check::{count_of, moments_of, traces_of};
 use clap::ArgMatches;
+use jepsen_form::MomentField;
 use std::alloc::{AllocError, Global};
 
 /// How a picture is drawn.
@@ -36,7 +37,7 @@ pub enum ThemeWord {
 pub struct Show<'a> {
     /// The tower file.
     pub tower: &'a str,
-    pub moments: MomentKey,
+    pub moments: MomentField,
     /// The register that is drawn. Where none is named, a culprit if there is one; as HTML, all registers that fail.
     pub register: Option<&'a str>,
     pub picture: Picture,

@@ -5,9 +5,10 @@ ghost use Rattle.std.specs.Option.{option_map};
 ghost use Rattle.clap.specs.Words.{found_of, rows_of};
 ghost use Rattle.words.specs.Words.{asked_watch, line_form_in, said_in, watch_by};
 
-use crate::check::{MomentKey, count_of, moments_of, shards_of, traces_of};
+use crate::check::{count_of, moments_of, shards_of, traces_of};
 use crate::show::is_set;
 use clap::ArgMatches;
+use jepsen_form::MomentField;
 use std::alloc::{AllocError, Global};
 
 /// What is written of a notice.
@@ -26,7 +27,7 @@ pub struct Watch<'a> {
     pub tower: &'a str,
     /// From 1 to 64.
     pub shards: u32,
-    pub moments: MomentKey,
+    pub moments: MomentField,
     pub form: LineForm,
     /// Whether it ends at the first register that fails.
     pub until_fail: bool,

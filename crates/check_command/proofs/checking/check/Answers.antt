@@ -1,7 +1,6 @@
 use Rattle.std.proofs.Common.{Vec, map, refl, ℕ}
 use Rattle.std.specs.declared.alloc.Global.{Global}
 use Rattle.words.specs.Words.{asked_check}
-use Rattle.command_parts.specs.Job.{chosen_field}
 use Rattle.command_parts.specs.Files.{AreHeld}
 use Rattle.check_command.proofs.Endings.{checked}
 use Rattle.command_parts.proofs.Readings.{held_later}
@@ -9,21 +8,21 @@ use Rattle.check_command.proofs.checking.check.Goals as goal
 
 pub print-requires-clause-of_tower : goal.print-requires-clause-of_tower
 print-requires-clause-of_tower g c κs within =
-    let run = c.in-Ok-judge.judged.run in
-    c.a_run_is_of_its_tower.ensures c.in_ok-tower.tower _ _ _ run.closed run.logs.items c.in-Ok-judge.ensures.run.2
+    let run = c.in-Ok.judged.run in
+    c.a_run_is_of_its_tower.ensures c.in_ok-tower.field-0.tower _ _ _ run.closed run.logs.items c.in-Ok.ensures.run.2
 
 pub returns-in-Ok-print-clause-checked : goal.returns-in-Ok-print-clause-checked
 returns-in-Ok-print-clause-checked g c =
     let asked = c.args.asked.now in
     let files = g.F.Files.held c.args.files.now in
-    let run = c.in-Ok-judge.judged.run in
-    let kept = map (λ (text : Vec ℕ Global). text.items) c.in-Ok-judge.judged.texts.items in
-    checked (files asked.tower.now) (asked_check asked) c.in_ok-tower.tower c.in_ok-order.order run.closed run.logs.items (chosen_field asked.moments) (map g.F.Reader.Read.remaining c.in_ok-readers.readers.items) (AreHeld files (map (λ name. name.now) asked.traces.items)) kept _ _ _
+    let run = c.in-Ok.judged.run in
+    let opened = c.in_ok-tower.field-0 in
+    let kept = map (λ (text : Vec ℕ Global). text.items) c.in-Ok.judged.texts.items in
+    checked (files asked.tower.now) (asked_check asked) opened.tower opened.register run.closed run.logs.items (map g.F.Reader.Read.remaining opened.readers.items) (AreHeld files (map (λ name. name.now) asked.traces.items)) kept _ _ _
     c.in_ok-tower.ensures.tower
-    c.in_ok-order.ensures.named
-    (λ known held. c.in_ok-readers.ensures.held known (held_later files (g.F.Files.held c.read_tower.new.files) asked.traces.items c.deref.result.now known c.read_tower.ensures.stays c.deref.ensures.value held))
-    refl
-    c.in-Ok-judge.ensures.run
-    c.in-Ok-judge.ensures.kept
+    c.in_ok-tower.ensures.named
+    (λ known held. c.in_ok-tower.ensures.held known (held_later files files asked.traces.items c.deref.result.now known refl c.deref.ensures.value held))
+    c.in-Ok.ensures.run
+    c.in-Ok.ensures.kept
     c.in-Ok-print.ensures.printed
     c.in-Ok-status_after.ensures

@@ -4,4 +4,4 @@ use Rattle.shards.specs.Plan.{plan_of}
 use Rattle.feeders.proofs.run.run_readers.Given as goal
 
 abbrev pub ghosts-read_in : goal.ghosts-read_in
-ghosts-read_in g a = record { plan = plan_of 0 a.tower.now a.shards (vec_len a.readers) }
+ghosts-read_in g a = record { plan = plan_of 0 a.setup.tower.now a.setup.shards (vec_len a.readers) }

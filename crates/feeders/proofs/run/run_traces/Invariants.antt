@@ -4,4 +4,4 @@ use Rattle.shards.specs.Plan.{plan_of}
 use Rattle.feeders.proofs.run.run_traces.Given as goal
 
 abbrev pub ghosts-run_in : goal.ghosts-run_in
-ghosts-run_in g a = record { plan = plan_of 0 a.tower.now a.shards (length a.traces.now) }
+ghosts-run_in g a = record { plan = plan_of 0 a.setup.tower.now a.setup.shards (length a.traces.now) }

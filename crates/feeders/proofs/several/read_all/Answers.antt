@@ -37,7 +37,7 @@ returns-clause-fed g c =
     let ended = c.in_ok-ended.ended in
     let remaining = g.S.Read.remaining in
     ok_then c.gathered.result c.gathered.ensures.all (λ outcomes are.
-    fed_all remaining (λ feeder left fed. IsReadAndFed (setting_of g.O.Opening.plan c.args.tower.now c.args.field (first_start feeder)) left fed) pairs.items c.args.passes.items _ ended.items outcomes.items
+    fed_all remaining (λ feeder left fed. IsReadAndFed (setting_of g.O.Opening.plan c.args.site.tower.now c.args.site.field (first_start feeder)) left fed) pairs.items c.args.passes.items _ ended.items outcomes.items
     c.in_ok-pairs.ensures.passes (of_given remaining pairs.items c.args.readers.items c.in_ok-pairs.ensures.given) (sym ended.ok.0 ∙ c.in_ok-ended.ensures.len ∙ pairs.ok.0)
     (λ i d below. let one = (c.in_ok-ended.ensures.each i d below).1 in record { pair = one.job; is = one.job_is; fed = one.call.met.0 }) are)
 

@@ -1,7 +1,5 @@
-use Rattle.std.proofs.Common.{◌∙◌, length, map, subst, sym}
+use Rattle.std.proofs.Common.{◌∙◌, length, sym}
 use Rattle.std.proofs.lemmas.Bool.{eqb-true}
-use Rattle.jepsen_form.specs.declared.item.MomentField.{MomentField}
-use Rattle.lint_command.specs.Looked.{AreFindingsOfRun}
 use Rattle.lint_command.proofs.Findings.{found_by, none_found}
 use Rattle.lint_command.proofs.looking.findings.Goals as goal
 
@@ -13,5 +11,4 @@ pub returns-in-Ok-clause-found : goal.returns-in-Ok-clause-found
 returns-in-Ok-clause-found g c =
     let is = c.in-Ok.ensures.found in
     let slices = c.args.slices.now in
-    subst (λ (field : MomentField). AreFindingsOfRun c.args.tower.now field (map (λ slice. slice.now) slices) c.in-Ok.found.traces.items) c.field_of.ensures
-    (found_by c.args.tower.now c.field_of.result slices is.0 is.1 is.2 c.in-Ok.found.traces.items is.3 is.4 is.5)
+    found_by c.args.tower.now c.args.asked.now.moments slices is.0 is.1 is.2 c.in-Ok.found.traces.items is.3 is.4 is.5

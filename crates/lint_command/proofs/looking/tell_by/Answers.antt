@@ -5,8 +5,8 @@ use Rattle.lint_command.proofs.looking.tell_by.Goals as goal
 
 pub returns-in-Err-clause-told : goal.returns-in-Err-clause-told
 returns-in-Err-clause-told g c =
-    let name = c.args.name.now in
-    let file = c.args.file.now in
+    let name = c.args.file.now.name.now in
+    let file = c.args.file.now.text.now in
     let located = c.in-Err.located in
     answered c.tell_fault.result
     (λ told is.

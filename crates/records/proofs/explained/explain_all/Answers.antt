@@ -14,10 +14,10 @@ none_left (suc n) (finding ∷ findings) past = none_left n findings (omega (ari
 
 pub returns : goal.returns
 returns c =
-    let tower = c.args.tower.now in
-    let closed = c.args.closed.now in
-    let findings = c.args.findings.now in
+    let tower = c.args.findings.now.tower.now in
+    let closed = c.args.findings.now.run.now.closed in
+    let findings = c.args.findings.now.each.now in
     let all = map (λ (allowed : Vec Allowed Global). allowed.items) c.loop-number.all.items in
-    let rest : drop c.loop-number.number findings ≡ [] = none_left c.loop-number.number findings (omega (arith, c.loop-number-test.false, c.len-number-end.ensures.length, c.requires.many)) in
+    let rest : drop c.loop-number.number findings ≡ [] = none_left c.loop-number.number findings (omega (arith, c.loop-number-test.false, c.len-number-end.ensures.length, c.args.findings.now.many)) in
     subst (λ (allowed : List (List Allowed)). AreAllowed tower closed 0 findings allowed) (append-nil all)
     (c.loop-number.invariant.so_far [] (subst (λ (left : List Finding). AreAllowed tower closed c.loop-number.number left []) (sym rest) tt))

@@ -8,7 +8,7 @@ use Rattle.records.proofs.explained.explain_all.Given as goal
 
 abbrev pub invariant-loop-number : goal.invariant-loop-number
 invariant-loop-number l = record {
-  within : l.number ≤ length l.findings;
-  so_far : (others : List (List Allowed)) → AreAllowed l.tower l.closed l.number (drop l.number l.findings) others
-      → AreAllowed l.tower l.closed 0 l.findings (map (λ (allowed : Vec Allowed Global). allowed.items) l.all.items ++ others);
+  within : l.number ≤ length l.findings.each.now;
+  so_far : (others : List (List Allowed)) → AreAllowed l.findings.tower.now l.findings.run.now.closed l.number (drop l.number l.findings.each.now) others
+      → AreAllowed l.findings.tower.now l.findings.run.now.closed 0 l.findings.each.now (map (λ (allowed : Vec Allowed Global). allowed.items) l.all.items ++ others);
 }

@@ -5,4 +5,4 @@ use Rattle.report.specs.Failing.{blamed_line}
 use Rattle.report.proofs.failing.push_blamed_lines.Given as goal
 
 abbrev pub invariant-loop-id : goal.invariant-loop-id
-invariant-loop-id l = string_bytes l.text ++ flat_map (blamed_line l.tower l.findings) (drop l.id-index l.ids) ≡ string_bytes l.fn.text ++ flat_map (blamed_line l.fn.tower l.fn.findings) l.fn.ids
+invariant-loop-id l = string_bytes l.text ++ flat_map (blamed_line l.findings.tower.now l.findings.each.now) (drop l.id-index l.ids) ≡ string_bytes l.fn.text ++ flat_map (blamed_line l.fn.findings.tower.now l.fn.findings.each.now) l.fn.ids

@@ -5,4 +5,4 @@ use Rattle.report.specs.Failing.{other_line}
 use Rattle.report.proofs.failing.push_other_lines.Given as goal
 
 abbrev pub invariant-loop-id : goal.invariant-loop-id
-invariant-loop-id l = string_bytes l.text ++ flat_map (other_line l.tower l.findings l.failing) (drop l.id-index l.ids) ≡ string_bytes l.fn.text ++ flat_map (other_line l.fn.tower l.fn.findings l.fn.failing) l.fn.ids
+invariant-loop-id l = string_bytes l.text ++ flat_map (other_line l.findings.tower.now l.findings.each.now l.findings.failing.now) (drop l.id-index l.ids) ≡ string_bytes l.fn.text ++ flat_map (other_line l.fn.findings.tower.now l.fn.findings.each.now l.fn.findings.failing.now) l.fn.ids

@@ -13,7 +13,7 @@ returns c =
       flat_map (λ (part : Bor (List Explanation)). list_text part.now) parts,
       record {
         entries = flat_map (λ (part : Bor (List Explanation)). part.now) parts;
-        are = codes_of_parts parts ∙ c.parts-parts.ensures;
+        are = codes_of_parts parts ∙ c.parts-parts.ensures.codes;
         is = sym (list_of_parts parts);
       },
       added ∙ ap (λ (these : List (Bor (List Explanation))). string_bytes c.args.text.now ++ flat_map (λ (part : Bor (List Explanation)). list_text part.now) these) c.as_slice.ensures,

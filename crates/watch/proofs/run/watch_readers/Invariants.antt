@@ -5,6 +5,6 @@ abbrev pub ghosts-watch_in : goal.ghosts-watch_in
 ghosts-watch_in g a = record {
   output = a.output.out.ghost_name;
   before = g.W.Write.contents a.output.out.now;
-  registers = a.tower.now.registers;
-  terms = a.terms.now;
+  registers = a.start.tower.now.registers;
+  terms = a.start.terms;
 }

@@ -16,5 +16,5 @@ returns-then-eq-clause-some c =
       parts.1,
       sym same ∙ parts.2,
       c.remove.ensures.items ∙ parts.3,
-      sym (ap (λ (x : Held). x.change.register) one) ∙ same_register c.index.result.now.change.register c.args.register (sym c.eq.ensures ∙ c.if-eq.true),
+      sym (ap (λ (x : Held). x.placed.change.register) one) ∙ same_register c.index.result.now.placed.change.register c.args.register (sym c.eq.ensures ∙ c.if-eq.true),
     )

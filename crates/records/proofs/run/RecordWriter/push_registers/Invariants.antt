@@ -8,7 +8,7 @@ use Rattle.records.proofs.run.RecordWriter.push_registers.Given as goal
 
 abbrev pub invariant-loop-number : goal.invariant-loop-number
 invariant-loop-number l = record {
-  within : l.number ≤ length l.findings;
-  lines : l.text.items ++ lines_of l.self.notation (registers_records l.self.places.now l.tower l.failing l.only_failing l.number (drop l.number l.findings) (map (λ (allowed : Vec Allowed Global). allowed.items) (drop l.number l.allowed)))
-      ≡ l.fn.text.items ++ lines_of l.fn.self.notation (registers_records l.fn.self.places.now l.fn.tower l.fn.failing l.fn.only_failing 0 l.fn.findings (map (λ (allowed : Vec Allowed Global). allowed.items) l.fn.allowed));
+  within : l.number ≤ length l.findings.each.now;
+  lines : l.text.items ++ lines_of l.self.notation (registers_records l.self.places.now l.findings.tower.now l.findings.failing.now l.self.only_failing l.number (drop l.number l.findings.each.now) (map (λ (allowed : Vec Allowed Global). allowed.items) (drop l.number l.allowed)))
+      ≡ l.fn.text.items ++ lines_of l.fn.self.notation (registers_records l.fn.self.places.now l.fn.findings.tower.now l.fn.findings.failing.now l.fn.self.only_failing 0 l.fn.findings.each.now (map (λ (allowed : Vec Allowed Global). allowed.items) l.fn.allowed));
 }

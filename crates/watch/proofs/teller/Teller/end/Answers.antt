@@ -10,13 +10,13 @@ returns-clause-all g c =
     let inside = c.self.inside in
     elim c.match-state.branch [
       | in-Going w ↦
-          rw (w.out-is, w.state-is)
-          (told_all_of g.B.Beginning.terms g.B.Beginning.registers g.B.Beginning.before (g.W.Write.contents w.write_last-state.new.out) inside.told.items (held_notices w.write_last-state.new.held.items) c.args.finished w.write_last-state.result
-          (told_due_by g.B.Beginning.terms inside.terms g.B.Beginning.registers inside.tower.now.registers g.B.Beginning.before (g.W.Write.contents inside.out.now) (g.W.Write.contents w.write_last-state.new.out)
-          inside.told.items inside.held.items w.write_last-state.new.held.items inside.state w.write_last-state.result is.2 is.1 w.in-Going.is is.3 w.write_last-state.ensures.written)
-          (λ over going. ap held_notices (w.write_last-state.ensures.all over going)))
+          let wrote = w.write_last-state in
+          rw (c.into_output.ensures.contents, w.printer-is, w.state-is)
+          (told_all_of g.B.Beginning.terms g.B.Beginning.registers g.B.Beginning.before wrote.new.self inside.told.items (held_notices wrote.new.held.items) c.args.finished wrote.result
+          (told_due_by g.B.Beginning.terms g.B.Beginning.registers g.B.Beginning.before inside.printer wrote.new.self inside.told.items inside.held.items wrote.new.held.items inside.state wrote.result w.in-Going.is is.0 wrote.ensures.written)
+          (λ over going. ap held_notices (wrote.ensures.all over going)))
       | in-Stopped w ↦
-          rw (w.out-is, w.state-is)
-          (told_all_of g.B.Beginning.terms g.B.Beginning.registers g.B.Beginning.before (g.W.Write.contents inside.out.now) inside.told.items (held_notices inside.held.items) c.args.finished inside.state
-          is.3 (λ over going. absurd (not_going inside.state w.in-Stopped.is going)))
+          rw (c.into_output.ensures.contents, w.printer-is, w.state-is)
+          (told_all_of g.B.Beginning.terms g.B.Beginning.registers g.B.Beginning.before inside.printer inside.told.items (held_notices inside.held.items) c.args.finished inside.state
+          is.0 (λ over going. absurd (not_going inside.state w.in-Stopped.is going)))
     ]

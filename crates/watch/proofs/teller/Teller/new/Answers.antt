@@ -4,9 +4,6 @@ use Rattle.watch.proofs.teller.Teller.new.Goals as goal
 
 pub invariant_of-result : goal.invariant_of-result
 invariant_of-result g c = (
-  c.requires.output,
-  c.requires.registers,
-  c.requires.terms,
   rw (c.new.ensures.items, c.new-2.ensures.items, c.requires.before) (told_none g.B.Beginning.terms g.B.Beginning.registers g.B.Beginning.before),
   λ going. rw (c.new-2.ensures.items) refl,
   λ going one alone. rw (c.new-2.ensures.items) tt,

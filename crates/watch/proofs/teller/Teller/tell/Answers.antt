@@ -13,27 +13,25 @@ pub invariant_of-self : goal.invariant_of-self
 invariant_of-self g c =
     let is = c.self.invariant in
     let inside = c.self.inside in
+    let taken = c.take-state in
     let going : inside.state ≡ Going = ap (λ m. m.state) c.self.view_is ∙ c.goes_on.ensures.0 c.if-not-goes_on.false in
-    let took = told_more g.B.Beginning.terms inside.terms g.B.Beginning.registers inside.tower.now.registers g.B.Beginning.before (g.W.Write.contents inside.out.now) (g.W.Write.contents c.take-state.new.out)
-    inside.told.items (held_notices inside.held.items) c.take-state.new.told.items (held_notices c.take-state.new.held.items) c.args.notice inside.state c.take-state.result
-    is.2 is.1 going is.3 c.take-state.ensures.told c.take-state.ensures.written in
+    let took = told_more g.B.Beginning.terms g.B.Beginning.registers g.B.Beginning.before inside.printer taken.new.self inside.told.items (held_notices inside.held.items) taken.new.told.items (held_notices taken.new.held.items)
+    c.args.notice inside.state taken.result going is.0 taken.ensures.told taken.ensures.written in
     elim c.if-is_going.branch [
       | then-is_going w ↦
+          let wrote = w.write_due-self-inside in
+          let goes = c.is_going.ensures.0 w.if-is_going.true in
           rw (w.self-inside-is, w.self-is) (
-            is.0,
-            is.1,
-            is.2,
-            told_due_by g.B.Beginning.terms inside.terms g.B.Beginning.registers inside.tower.now.registers g.B.Beginning.before (g.W.Write.contents c.take-state.new.out) (g.W.Write.contents w.write_due-self-inside.new.out)
-                c.take-state.new.told.items c.take-state.new.held.items w.write_due-self-inside.new.held.items c.take-state.result w.write_due-self-inside.result
-                is.2 is.1 (c.is_going.ensures.0 w.if-is_going.true) took w.write_due-self-inside.ensures.written,
-            λ on. subst (λ (l : List FeederProgress). has_due w.write_due-self-inside.new.held.items l ≡ false) w.as_slice-then-is_going.ensures.value (w.write_due-self-inside.ensures.none on),
+            told_due_by g.B.Beginning.terms g.B.Beginning.registers g.B.Beginning.before taken.new.self wrote.new.self taken.new.told.items taken.new.held.items wrote.new.held.items taken.result wrote.result
+                goes took wrote.ensures.written,
+            λ on. subst (λ (l : List FeederProgress). has_due wrote.new.held.items l ≡ false) w.as_slice-then-is_going.ensures.value (wrote.ensures.none on),
             λ on one alone.
-                due_in_turn (most_of inside.terms.settle one) w.as_slice-then-is_going.result.now c.take-state.new.held.items w.write_due-self-inside.new.held.items w.write_due-self-inside.ensures.due
-                (held_in_turn inside.terms.settle c.as_slice.result.now one c.args.notice inside.held.items c.take-state.new.held.items (c.as_slice.ensures.value ∙ alone) (is.5 going one alone)
-                (c.take-state.ensures.held (rw (c.is_going.ensures.0 w.if-is_going.true) tt))),
+                due_in_turn (most_of g.B.Beginning.terms.settle one) w.as_slice-then-is_going.result.now taken.new.held.items wrote.new.held.items wrote.ensures.due
+                (held_in_turn g.B.Beginning.terms.settle c.as_slice.result.now one c.args.notice inside.held.items taken.new.held.items (c.as_slice.ensures.value ∙ alone) (is.2 going one alone)
+                (taken.ensures.held (rw goes tt))),
           )
       | else-is_going w ↦
-          rw (w.self-inside-is, w.self-is) (is.0, is.1, is.2, took, λ on. absurd (let h = c.is_going.ensures.1 on in let f = w.if-is_going.false in cc), λ on. absurd (let h = c.is_going.ensures.1 on in let f = w.if-is_going.false in cc))
+          rw (w.self-inside-is, w.self-is) (took, λ on. absurd (let h = c.is_going.ensures.1 on in let f = w.if-is_going.false in cc), λ on. absurd (let h = c.is_going.ensures.1 on in let f = w.if-is_going.false in cc))
     ]
 
 pub returns-clause-soon : goal.returns-clause-soon
@@ -46,26 +44,27 @@ returns-clause-soon g c =
     λ going one alone.
     let on : inside.state ≡ Going = state ∙ going in
     let own : inside.progress.items ≡ one ∷ [] = progress ∙ alone in
-    rw (sym progress, sym held) (none_due inside.terms.settle inside.progress.items one inside.held.items own (is.5 on one own) (is.4 on))
+    rw (sym progress, sym held) (none_due g.B.Beginning.terms.settle inside.progress.items one inside.held.items own (is.2 on one own) (is.1 on))
 
 pub returns-clause-held : goal.returns-clause-held
 returns-clause-held g c =
     let inside = c.self.inside in
+    let taken = c.take-state in
     let progress = ap (λ m. m.progress) c.self.view_is in
     let held = ap (λ m. m.held) c.self.view_is in
+    let from = held_by c.args.self.now.progress c.as_slice.result.now g.B.Beginning.terms.settle c.args.notice c.args.self.now.held inside.held.items taken.new.held.items (c.as_slice.ensures.value ∙ progress) held in
     elim c.if-is_going.branch [
       | then-is_going w ↦
+          let wrote = w.write_due-self-inside in
           λ going has. rw (w.self-inside-is) (
-            c.take-state.new.held.items,
-            held_by c.args.self.now.progress c.as_slice.result.now g.B.Beginning.terms inside.terms c.args.notice c.args.self.now.held inside.held.items c.take-state.new.held.items
-                (c.as_slice.ensures.value ∙ progress) c.self.invariant.2 held (c.take-state.ensures.held (rw (c.is_going.ensures.0 w.if-is_going.true) tt)),
-            due_by c.args.self.now.progress w.as_slice-then-is_going.result.now c.take-state.new.held.items w.write_due-self-inside.new.held.items (w.as_slice-then-is_going.ensures.value ∙ progress) w.write_due-self-inside.ensures.due,
+            taken.new.held.items,
+            from (taken.ensures.held (rw (c.is_going.ensures.0 w.if-is_going.true) tt)),
+            due_by c.args.self.now.progress w.as_slice-then-is_going.result.now taken.new.held.items wrote.new.held.items (w.as_slice-then-is_going.ensures.value ∙ progress) wrote.ensures.due,
           )
       | else-is_going w ↦
           λ going has. rw (w.self-inside-is) (
-            c.take-state.new.held.items,
-            held_by c.args.self.now.progress c.as_slice.result.now g.B.Beginning.terms inside.terms c.args.notice c.args.self.now.held inside.held.items c.take-state.new.held.items
-                (c.as_slice.ensures.value ∙ progress) c.self.invariant.2 held (c.take-state.ensures.held (subst HasTold w.self-is has)),
-            due_none c.args.self.now.progress c.take-state.new.held.items c.take-state.new.held.items refl,
+            taken.new.held.items,
+            from (taken.ensures.held (subst HasTold w.self-is has)),
+            due_none c.args.self.now.progress taken.new.held.items taken.new.held.items refl,
           )
     ]

@@ -3,11 +3,11 @@ use Rattle.watch.specs.declared.teller.TellerState.TheVariants.{Going}
 use Rattle.watch.specs.Teller.{HasTold, IsWritten}
 use Rattle.watch.specs.Due.{held_notices}
 use Rattle.watch.proofs.Telling.{one_less, written_next, written_on}
-use Rattle.watch.proofs.teller.write_left.Goals as goal
+use Rattle.watch.proofs.printer.Printer.write_left.Goals as goal
 
 pub returns-then-not-is_going-clause-written : goal.returns-then-not-is_going-clause-written
 returns-then-not-is_going-clause-written g c =
-    written_next c.args.terms.now c.args.tower.now.registers c.args.held.now.items c.loop.held.items c.write_first-state.new.held.items c.write_first-state.result (g.W.Write.contents c.args.out.now) (g.W.Write.contents c.loop.out) (g.W.Write.contents c.write_first-state.new.out)
+    written_next g.B.Beginning.terms g.B.Beginning.registers c.args.held.now.items c.loop.held.items c.write_first-state.new.held.items c.write_first-state.result c.args.self.now c.loop.self c.write_first-state.new.self
     c.loop.invariant.1 c.write_first-state.ensures.written
 
 pub loop-preserved : goal.loop-preserved
@@ -16,9 +16,9 @@ loop-preserved g c =
     let many : length c.loop.held.items ≡ vec_len c.loop.held = search rules in
     let left : length c.write_first-state.new.held.items ≡ vec_len c.write_first-state.new.held = search rules in
     let less : length c.loop.held.items ≡ 1 + length c.write_first-state.new.held.items =
-    one_less c.loop.held.items c.write_first-state.new.held.items c.write_first-state.result (λ written. IsWritten c.args.terms.now c.args.tower.now.registers (held_notices written) c.write_first-state.result (g.W.Write.contents c.loop.out) (g.W.Write.contents c.write_first-state.new.out))
+    one_less c.loop.held.items c.write_first-state.new.held.items c.write_first-state.result (λ written. IsWritten g.B.Beginning.terms g.B.Beginning.registers (held_notices written) c.write_first-state.result c.loop.self c.write_first-state.new.self)
     (subst HasTold (sym going) tt) c.write_first-state.ensures.written in (
       omega (arith, c.loop.invariant.0, many, left, less),
-      written_on c.args.terms.now c.args.tower.now.registers c.args.held.now.items c.loop.held.items c.write_first-state.new.held.items c.write_first-state.result (g.W.Write.contents c.args.out.now) (g.W.Write.contents c.loop.out) (g.W.Write.contents c.write_first-state.new.out)
+      written_on g.B.Beginning.terms g.B.Beginning.registers c.args.held.now.items c.loop.held.items c.write_first-state.new.held.items c.write_first-state.result c.args.self.now c.loop.self c.write_first-state.new.self
           going c.loop.invariant.1 c.write_first-state.ensures.written,
     )

@@ -5,11 +5,11 @@ use Rattle.watch.specs.Due.{has_due, held_notices}
 use Rattle.watch.specs.Teller.{HasTold, IsWritten}
 use Rattle.watch.proofs.Advancing.{due_more, due_one}
 use Rattle.watch.proofs.Telling.{one_less, written_next, written_on}
-use Rattle.watch.proofs.teller.write_due.Goals as goal
+use Rattle.watch.proofs.printer.Printer.write_due.Goals as goal
 
 pub returns-then-not-is_going-clause-written : goal.returns-then-not-is_going-clause-written
 returns-then-not-is_going-clause-written g c =
-    written_next c.args.terms.now c.args.tower.now.registers c.args.held.now.items c.loop.held.items c.write_first-state.new.held.items c.write_first-state.result (g.W.Write.contents c.args.out.now) (g.W.Write.contents c.loop.out) (g.W.Write.contents c.write_first-state.new.out)
+    written_next g.B.Beginning.terms g.B.Beginning.registers c.args.held.now.items c.loop.held.items c.write_first-state.new.held.items c.write_first-state.result c.args.self.now c.loop.self c.write_first-state.new.self
     c.loop.invariant.2 c.write_first-state.ensures.written
 
 pub returns-then-not-is_going-clause-due : goal.returns-then-not-is_going-clause-due
@@ -25,11 +25,11 @@ loop-preserved g c =
     let many : length c.loop.held.items ≡ vec_len c.loop.held = search rules in
     let left : length c.write_first-state.new.held.items ≡ vec_len c.write_first-state.new.held = search rules in
     let less : length c.loop.held.items ≡ 1 + length c.write_first-state.new.held.items =
-    one_less c.loop.held.items c.write_first-state.new.held.items c.write_first-state.result (λ written. IsWritten c.args.terms.now c.args.tower.now.registers (held_notices written) c.write_first-state.result (g.W.Write.contents c.loop.out) (g.W.Write.contents c.write_first-state.new.out))
+    one_less c.loop.held.items c.write_first-state.new.held.items c.write_first-state.result (λ written. IsWritten g.B.Beginning.terms g.B.Beginning.registers (held_notices written) c.write_first-state.result c.loop.self c.write_first-state.new.self)
     (subst HasTold (sym going) tt) c.write_first-state.ensures.written in (
       omega (arith, c.loop.invariant.0, many, left, less),
       due_more c.args.progress.now c.args.held.now.items c.loop.held.items c.write_first-state.new.held.items c.loop.invariant.1
           (due_one c.args.progress.now c.loop.held.items c.write_first-state.new.held.items due c.write_first-state.ensures.first),
-      written_on c.args.terms.now c.args.tower.now.registers c.args.held.now.items c.loop.held.items c.write_first-state.new.held.items c.write_first-state.result (g.W.Write.contents c.args.out.now) (g.W.Write.contents c.loop.out) (g.W.Write.contents c.write_first-state.new.out)
+      written_on g.B.Beginning.terms g.B.Beginning.registers c.args.held.now.items c.loop.held.items c.write_first-state.new.held.items c.write_first-state.result c.args.self.now c.loop.self c.write_first-state.new.self
           going c.loop.invariant.2 c.write_first-state.ensures.written,
     )
