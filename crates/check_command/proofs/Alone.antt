@@ -2,10 +2,9 @@
 use Rattle.std.proofs.Common.{◌≡◌, ◌↔◌, ◌<◌, ℕ, Bool, List, [], ◌∷◌, map, length, Option, Some, refl, sym, ap, subst, ◌∙◌, IsTrue, All, Any, arith}
 use Rattle.std.specs.List.{list_any, slice_get, slice_index_or, AllByRecursion}
 use Rattle.std.proofs.lemmas.List.Elements.{All-weaker, recursion_from_All}
-use Rattle.intervals.specs.declared.operation.Op.{Op}
 use Rattle.intervals.specs.declared.edit.Edit.{Edit}
 use Rattle.intervals.specs.Terms.{ClaimModel, RegisterState, unedited}
-use Rattle.intervals.specs.Bare.{bare, bare_edit, bare_held}
+use Rattle.intervals.specs.Bare.{bare_edit, bare_held}
 use Rattle.intervals.specs.Kind.{Holds}
 use Rattle.intervals.specs.Refusal.{reply_to, standing}
 use Rattle.jepsen_form.specs.declared.item.MomentField.TheVariants.{Index}
@@ -53,7 +52,7 @@ of_one_feeder passes closed finished =
 -- what is said of the register as the run leaves it, and of its log
 pub record Says (closed : List ClosedShard) (logs : List Log) (audit : Audit) : Type 0 where
   pub kind : (held : RegisterState) → book_of closed 0 ≡ Some held → audit.kind ≡ held.claim.kind
-  pub holds : (held : RegisterState) → book_of closed 0 ≡ Some held → IsTrue audit.holds ↔ Holds held.claim held.ops
+  pub holds : (held : RegisterState) → book_of closed 0 ≡ Some held → IsTrue audit.holds ↔ Holds held
   pub operations : (held : RegisterState) → book_of closed 0 ≡ Some held → audit.operations ≡ length held.ops
   pub refused : (log : Log) → logs ≡ log ∷ [] → audit.refused ≡ has_refused log
   pub broken : (log : Log) → logs ≡ log ∷ [] → audit.broken ≡ log.broken
@@ -61,11 +60,11 @@ pub record Says (closed : List ClosedShard) (logs : List Log) (audit : Audit) : 
 module _
     (present : (plan : Plan) (at register : ℕ) (claim : ClaimModel) (journal : List Entry) → IsLegalJournal plan at journal → slice_get plan.claims register ≡ Some claim
     → left_by journal register claim ≡ standing (unedited claim) (edits_of register journal))
-    (reply_is : (claim : ClaimModel) (ops : List Op) (edit : Edit) → reply_to claim (map bare ops) (bare_edit edit) ≡ reply_to claim ops edit)
+    (reply_is : (held : RegisterState) (edit : Edit) → reply_to (bare_held held) (bare_edit edit) ≡ reply_to held edit)
     (stood : (claim : ClaimModel) (edits : List Edit) → bare_held (standing (unedited claim) (map bare_edit edits)) ≡ bare_held (standing (unedited claim) edits))
     (alike : (claim : ClaimModel) (edits others : List Edit) → map bare_edit edits ≡ map bare_edit others
     → let one = standing (unedited claim) edits in let other = standing (unedited claim) others in
-    (one.claim ≡ other.claim) × (Holds one.claim one.ops ↔ Holds other.claim other.ops) × (length one.ops ≡ length other.ops)) where
+    (one.claim ≡ other.claim) × (Holds one ↔ Holds other) × (length one.ops ≡ length other.ops)) where
   present_alone : (journal : List Entry) → IsLegalJournal alone_plan 0 journal → left_by journal 0 alone_claim ≡ standing (unedited alone_claim) (edits_of 0 journal)
   present_alone journal legal = present alone_plan 0 0 alone_claim journal legal refl
 
@@ -90,9 +89,9 @@ module _
         record {
           kind_is = subst (λ (taken : List StepResult). audit.kind ≡ (standing_after taken).claim.kind) steps
               (says.kind held book ∙ ap (λ (h : RegisterState). h.claim.kind) held_is ∙ ap (λ (claim : ClaimModel). claim.kind) same.0);
-          verdict = subst (λ (taken : List StepResult). IsTrue audit.holds ↔ Holds (standing_after taken).claim (standing_after taken).ops) steps
-              (joined (IsTrue audit.holds) (Holds held.claim held.ops) (Holds told.claim told.ops) (says.holds held book)
-              (subst (λ (h : RegisterState). Holds h.claim h.ops ↔ Holds told.claim told.ops) (sym held_is) same.1));
+          verdict = subst (λ (taken : List StepResult). IsTrue audit.holds ↔ Holds (standing_after taken)) steps
+              (joined (IsTrue audit.holds) (Holds held) (Holds told) (says.holds held book)
+              (subst (λ (h : RegisterState). Holds h ↔ Holds told) (sym held_is) same.1));
           count = subst (λ (taken : List StepResult). audit.operations ≡ length (standing_after taken).ops) steps
               (says.operations held book ∙ ap (λ (h : RegisterState). length h.ops) held_is ∙ same.2);
           refusals = subst (λ (taken : List StepResult). IsTrue audit.refused ↔ HasRefused taken) steps

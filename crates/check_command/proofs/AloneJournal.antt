@@ -6,11 +6,10 @@ use Rattle.std.proofs.lemmas.List.{append-nil, append_assoc, map-append}
 use Rattle.std.proofs.lemmas.List.Elements.{filter-append, filter_map-append}
 use Rattle.std.proofs.lemmas.Bool.{eq-eqb}
 use Rattle.std.proofs.lemmas.Option.{none-some, same_Some}
-use Rattle.intervals.specs.declared.operation.Op.{Op}
 use Rattle.intervals.specs.declared.operation.RegId.{RegId}
 use Rattle.intervals.specs.declared.edit.Edit.{Edit}
 use Rattle.intervals.specs.Terms.{ClaimModel, RegisterState, unedited}
-use Rattle.intervals.specs.Bare.{bare, bare_edit, bare_held}
+use Rattle.intervals.specs.Bare.{bare_edit, bare_held}
 use Rattle.intervals.specs.Refusal.{reply_to, standing}
 use Rattle.register_book.specs.declared.reply.Reply.{Reply}
 use Rattle.register_book.specs.Reply.{IsReply}
@@ -26,7 +25,7 @@ use Rattle.shards.specs.Steps.{entry_of, numbered_entry}
 use Rattle.logs.specs.Steps.{StepResult, edit_on, edits_among}
 use Rattle.logs.specs.Doings.{Doing, refused, nothing, entered, answered, taken_of, entered_in}
 use Rattle.check_command.specs.Verdict.{standing_after, IsRefused}
-use Rattle.check_command.proofs.AloneReplies.{same_bare, refusal_of, reply_after, one_reply, after_front, front_of}
+use Rattle.check_command.proofs.AloneReplies.{same_bare, refusal_of, one_reply, after_front, front_of}
 use Rattle.check_command.proofs.AloneRefusals.{AreReplied, is_refusing}
 
 -- the plan of one feeder, one shard and the one register
@@ -127,24 +126,24 @@ pushed before front entry register edit number reply edits one =
 
 module _
     (present : (journal : List Entry) → IsLegalJournal alone_plan 0 journal → left_by journal 0 alone_claim ≡ standing (unedited alone_claim) (edits_of 0 journal))
-    (reply_is : (claim : ClaimModel) (ops : List Op) (edit : Edit) → reply_to claim (map bare ops) (bare_edit edit) ≡ reply_to claim ops edit)
+    (reply_is : (held : RegisterState) (edit : Edit) → reply_to (bare_held held) (bare_edit edit) ≡ reply_to held edit)
     (stood : (edits : List Edit) → bare_held (standing (unedited alone_claim) (map bare_edit edits)) ≡ bare_held (standing (unedited alone_claim) edits)) where
   replied_entry : (front : List Entry) (entry : Entry) (rest : List Entry) → IsLegalJournal alone_plan 0 (front ++ entry ∷ rest)
-      → not (is_accepted entry.reply) ≡ is_some (reply_after (standing (unedited alone_claim) (edits_of 0 front)) entry.edit)
+      → not (is_accepted entry.reply) ≡ is_some (reply_to (standing (unedited alone_claim) (edits_of 0 front)) entry.edit)
   replied_entry front entry rest legal =
       let is : IsAnswered alone_plan 0 front entry = after_front (IsAnswered alone_plan 0) [] front entry rest legal in
       let known : (entry.register.0 ≡ 0) × (is.claim ≡ alone_claim) = known_is entry.register.0 is.claim is.known in
       let here : IsReply (left_by front entry.register.0 alone_claim) entry.edit entry.reply = subst (λ (c : ClaimModel). IsReply (left_by front entry.register.0 c) entry.edit entry.reply) known.1 is.reply in
       let zero_here : IsReply (left_by front 0 alone_claim) entry.edit entry.reply = subst (λ (n : ℕ). IsReply (left_by front n alone_claim) entry.edit entry.reply) known.0 here in
       refusal_of (left_by front 0 alone_claim) entry.edit entry.reply zero_here
-      ∙ ap (λ (held : RegisterState). is_some (reply_after held entry.edit)) (present front (front_of (IsAnswered alone_plan 0) [] front (entry ∷ rest) legal))
+      ∙ ap (λ (held : RegisterState). is_some (reply_to held entry.edit)) (present front (front_of (IsAnswered alone_plan 0) [] front (entry ∷ rest) legal))
 
   entering : (before : List StepResult) (front : List Entry) (entry : Entry) (journal : List Entry) (register : RegId) (edit : Edit) (number : ℕ) (reply : Reply) (doings : List Doing)
       → IsLegalJournal alone_plan 0 (front ++ entry ∷ journal) → map bare_edit (edits_of 0 front) ≡ map bare_edit (edits_among 0 before) → IsOne entry register edit reply
       → Runs (before ++ taken_of (entered register edit number reply) ∷ []) (front ++ entry ∷ []) journal doings
       → Runs before front (entry ∷ journal) (entered register edit number reply ∷ doings)
   entering before front entry journal register edit number reply doings legal edits one rest =
-      let same : not (is_accepted reply) ≡ is_some (reply_after (standing_after before) edit) =
+      let same : not (is_accepted reply) ≡ is_some (reply_to (standing_after before) edit) =
       ap (λ (r : Reply). not (is_accepted r)) (sym one.replies)
       ∙ replied_entry front entry journal legal
       ∙ ap is_some (one_reply alone_claim reply_is stood (edits_of 0 front) (edits_among 0 before) entry.edit edit edits one.alike) in

@@ -1,14 +1,12 @@
 -- What edits that read the same come to, and what a doing's reply says of its refusal.
-use Rattle.std.proofs.Common.{◌≡◌, ◌⊎◌, Option, Bool, true, false, not, ◌||◌, List, [], ◌∷◌, ◌++◌, map, refl, sym, ap, subst, ◌∙◌, inl, inr, IsTrue}
+use Rattle.std.proofs.Common.{◌≡◌, ◌⊎◌, Bool, true, false, not, ◌||◌, List, [], ◌∷◌, ◌++◌, map, refl, sym, ap, subst, ◌∙◌, inl, inr, IsTrue}
 use Rattle.std.specs.Prelude.{is_some}
 use Rattle.std.proofs.lemmas.List.{append-nil, append_assoc}
-use Rattle.intervals.specs.declared.operation.Op.{Op}
 use Rattle.intervals.specs.declared.edit.Lent.TheVariants.{Answer}
 use Rattle.intervals.specs.declared.edit.Edit.{Edit}
 use Rattle.intervals.specs.declared.edit.Edit.TheVariants.{Append, Amend, Withdraw, Claim}
-use Rattle.intervals.specs.declared.refusal.Refusal.{Refusal}
 use Rattle.intervals.specs.Terms.{ClaimModel, RegisterState, unedited}
-use Rattle.intervals.specs.Bare.{bare, bare_edit, bare_held, no_text, no_parts}
+use Rattle.intervals.specs.Bare.{bare_edit, bare_held, no_text, no_parts}
 use Rattle.intervals.specs.Refusal.{reply_to, standing}
 use Rattle.register_book.specs.declared.reply.Reply.{Reply}
 use Rattle.register_book.specs.declared.reply.Reply.TheVariants.{Accepted, Refused}
@@ -34,27 +32,24 @@ pub same_bare : (edit other : Edit) → plain_edit edit ≡ plain_edit other →
 same_bare edit other same = bare_as_read edit ∙ ap bare_of same ∙ sym (bare_as_read other)
 
 -- an edit was refused exactly where a refusal is its reply
-pub refusal_of : (held : RegisterState) (edit : Edit) (reply : Reply) → IsReply held edit reply → not (is_accepted reply) ≡ is_some (reply_to held.claim held.ops edit)
+pub refusal_of : (held : RegisterState) (edit : Edit) (reply : Reply) → IsReply held edit reply → not (is_accepted reply) ≡ is_some (reply_to held edit)
 refusal_of held edit (Accepted holds) is = sym (ap is_some is.0)
 refusal_of held edit (Refused refusal) is = sym (ap is_some is)
 
-abbrev pub reply_after : RegisterState → Edit → Option Refusal
-reply_after held edit = reply_to held.claim held.ops edit
-
 -- edits that are the same without their texts get one reply
 pub one_reply : (claim : ClaimModel)
-    (reply : (claim : ClaimModel) (ops : List Op) (edit : Edit) → reply_to claim (map bare ops) (bare_edit edit) ≡ reply_to claim ops edit)
+    (reply : (held : RegisterState) (edit : Edit) → reply_to (bare_held held) (bare_edit edit) ≡ reply_to held edit)
     (stood : (edits : List Edit) → bare_held (standing (unedited claim) (map bare_edit edits)) ≡ bare_held (standing (unedited claim) edits))
     (edits others : List Edit) (edit other : Edit) → map bare_edit edits ≡ map bare_edit others → bare_edit edit ≡ bare_edit other
-    → reply_after (standing (unedited claim) edits) edit ≡ reply_after (standing (unedited claim) others) other
+    → reply_to (standing (unedited claim) edits) edit ≡ reply_to (standing (unedited claim) others) other
 one_reply claim reply stood edits others edit other same alike =
     let one : RegisterState = standing (unedited claim) edits in
     let two : RegisterState = standing (unedited claim) others in
     let held : bare_held one ≡ bare_held two = sym (stood edits) ∙ ap (λ (e : List Edit). bare_held (standing (unedited claim) e)) same ∙ stood others in
-    sym (reply one.claim one.ops edit)
-    ∙ ap (λ (h : RegisterState). reply_after h (bare_edit edit)) held
-    ∙ ap (reply_after (bare_held two)) alike
-    ∙ reply two.claim two.ops other
+    sym (reply one edit)
+    ∙ ap (λ (h : RegisterState). reply_to h (bare_edit edit)) held
+    ∙ ap (reply_to (bare_held two)) alike
+    ∙ reply two other
 
 -- each element of a list has the relation to those before it
 pub after_front : {X : Type 0} (R : List X → X → Type 0) (before front : List X) (x : X) (rest : List X) → EachAfter R before (front ++ x ∷ rest) → R (before ++ front) x

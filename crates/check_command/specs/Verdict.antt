@@ -24,7 +24,7 @@ standing_after taken = standing (unedited alone_claim) (edits_among 0 taken)
 abbrev pub IsRefused : List StepResult → StepResult → Type 0
 IsRefused before (Err code) = Unit {0}
 IsRefused before (Ok None) = ⊥
-IsRefused before (Ok (Some (steps.Edit register edit))) = IsSome (reply_to (standing_after before).claim (standing_after before).ops edit)
+IsRefused before (Ok (Some (steps.Edit register edit))) = IsSome (reply_to (standing_after before) edit)
 IsRefused before (Ok (Some (steps.Ask register))) = ⊥
 
 -- one of the steps is refused
@@ -39,7 +39,7 @@ pub record HasRefused (taken : List StepResult) : Type 0 where
 -- an element was refused
 pub record IsVerdict (items : List (Result Item FormFault)) (kind : Kind) (holds refused : Bool) (operations : ℕ) : Type 0 where
   pub kind_is : kind ≡ (standing_after (steps_of 0 items)).claim.kind
-  pub verdict : IsTrue holds ↔ Holds (standing_after (steps_of 0 items)).claim (standing_after (steps_of 0 items)).ops
+  pub verdict : IsTrue holds ↔ Holds (standing_after (steps_of 0 items))
   pub count : operations ≡ length (standing_after (steps_of 0 items)).ops
   pub refusals : IsTrue refused ↔ HasRefused (steps_of 0 items)
 

@@ -99,7 +99,7 @@ fn verdict_of(run: &Run) -> Audit
     requires one { length run.now.logs.items ≡ 1 }
     requires there { IsSome (book_of run.now.closed 0) }
     ensures kind { (held : RegisterState) → book_of run.now.closed 0 ≡ Some held → result.kind ≡ held.claim.kind }
-    ensures holds { (held : RegisterState) → book_of run.now.closed 0 ≡ Some held → IsTrue result.holds ↔ Holds held.claim held.ops }
+    ensures holds { (held : RegisterState) → book_of run.now.closed 0 ≡ Some held → IsTrue result.holds ↔ Holds held }
     ensures operations { (held : RegisterState) → book_of run.now.closed 0 ≡ Some held → result.operations ≡ length held.ops }
     ensures refused { (log : ALog) → run.now.logs.items ≡ log ∷ [] → result.refused ≡ has_refused log }
     ensures broken { (log : ALog) → run.now.logs.items ≡ log ∷ [] → result.broken ≡ log.broken }

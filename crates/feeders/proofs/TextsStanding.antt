@@ -140,7 +140,7 @@ module _ (register : ℕ) (journal : List Entry) (entry : Entry) where
         (λ op last part. stays op.id part (text_of part op.parts) (λ _. ap (settled part) is) (last part)) ops last
 
   not_refused : (held : RegisterState) (edit : Edit) (reply : Reply) → is_accepted reply ≡ true → IsReply held edit reply → first_refusal held.ops edit ≡ None
-  not_refused held edit (Accepted holds) e is = edit_accepted held.claim held.ops edit is.0
+  not_refused held edit (Accepted holds) e is = edit_accepted held edit is.0
   not_refused held edit (Refused refusal) e is = absurd (cc)
 
   after_entry : (plan : Plan) (at : ℕ) → IsAnswered plan at journal entry → All (AreLast register journal) (standing_of register journal)

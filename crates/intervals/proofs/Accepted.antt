@@ -11,7 +11,7 @@ use Rattle.intervals.specs.declared.claim.Kind.{Kind}
 use Rattle.intervals.specs.declared.claim.Kind.TheVariants.{Safe, Regular, Atomic}
 use Rattle.intervals.specs.declared.refusal.Refusal.{Refusal}
 use Rattle.intervals.specs.declared.refusal.Refusal.TheVariants.{OpTaken, EndNotAfterBegin, MomentTooLarge, NotAWriter, OutOfDomain, ClaimFixed, ClaimWriters, ClaimInitial}
-use Rattle.intervals.specs.Terms.{ClaimModel}
+use Rattle.intervals.specs.Terms.{ClaimModel, RegisterState}
 use Rattle.intervals.specs.Operation.{Overlaps, IsWrite, is_write, overlaps, same_id, value_of}
 use Rattle.intervals.specs.Edit.{op_of, new_op}
 use Rattle.intervals.specs.Refusal.{first_present, refused_if, has_early_end, has_large_moment, is_in_domain, ends_by, is_at, is_moment_of, find_other_with, moment_taken, moments_refusal, amendment_refusal, first_refusal, may_write, is_overlapped, overlap_refusal, kind_refusal, new_write_refusal, first_overlap, is_one_writer, one_writer_refusal, overlap_claimed, to_kind_refusal, claim_refusal, reply_to}
@@ -102,13 +102,14 @@ shares_none ops new e k d lt f moment (inr is) h =
     none_with ops new.id moment (subst (λ (m : Option Moment). moment_taken ops new.id m ≡ None) is end) k d lt f h
 
 -- an accepted edit meets none of the three kinds of refusals: X1 to X5, X6 to X9, X10 to X14
-pub accepted_by_all : (claim : ClaimModel) (ops : List Op) (edit : Edit) → reply_to claim ops edit ≡ None
-    → (first_refusal ops edit ≡ None) × (new_write_refusal claim ops (new_op ops edit) ≡ None) × (claim_refusal claim ops edit ≡ None)
-accepted_by_all claim ops edit e = none_of_three (first_refusal ops edit) (new_write_refusal claim ops (new_op ops edit)) (claim_refusal claim ops edit) e
+pub accepted_by_all : (held : RegisterState) (edit : Edit) → reply_to held edit ≡ None
+    → (first_refusal held.ops edit ≡ None) × (new_write_refusal held.claim held.ops (new_op held.ops edit) ≡ None) × (claim_refusal held.claim held.ops edit ≡ None)
+accepted_by_all held edit e =
+    none_of_three (first_refusal held.ops edit) (new_write_refusal held.claim held.ops (new_op held.ops edit)) (claim_refusal held.claim held.ops edit) e
 
 -- an accepted edit meets none of X1 to X5
-pub edit_accepted : (claim : ClaimModel) (ops : List Op) (edit : Edit) → reply_to claim ops edit ≡ None → first_refusal ops edit ≡ None
-edit_accepted claim ops edit e = (accepted_by_all claim ops edit e).0
+pub edit_accepted : (held : RegisterState) (edit : Edit) → reply_to held edit ≡ None → first_refusal held.ops edit ≡ None
+edit_accepted held edit e = (accepted_by_all held edit e).0
 
 not_false : (test : Bool) → not test ≡ false → test ≡ true
 not_false true e = refl
@@ -129,24 +130,25 @@ one_writer_known Regular claim ops e one_writer = known_accepted claim ops e
 one_writer_known Atomic claim ops e one_writer = absurd (one_writer refl)
 
 -- an accepted claim meets none of X11 to X14
-pub claim_accepted : (kind : Kind) (claim : ClaimModel) (ops : List Op) → reply_to claim ops (Claim kind) ≡ None → to_kind_refusal kind claim ops ≡ None
-claim_accepted kind claim ops e = (none_of_two (refused_if claim.fixed ClaimFixed) (to_kind_refusal kind claim ops) (accepted_by_all claim ops (Claim kind) e).2).1
+pub claim_accepted : (kind : Kind) (held : RegisterState) → reply_to held (Claim kind) ≡ None → to_kind_refusal kind held.claim held.ops ≡ None
+claim_accepted kind held e = (none_of_two (refused_if held.claim.fixed ClaimFixed) (to_kind_refusal kind held.claim held.ops) (accepted_by_all held (Claim kind) e).2).1
 
 -- a new write is permitted by the claim, and not refused by the kind of the register
-pub write_accepted : (claim : ClaimModel) (ops : List Op) (edit : Edit) (new : Op) → reply_to claim ops edit ≡ None → new_op ops edit ≡ Some new → IsWrite new → IsPermitted claim new × (kind_refusal claim.kind claim ops new ≡ None)
-write_accepted claim ops edit new e is write =
-    by_cases (is_write new) write (sym (ap (new_write_refusal claim ops) is) ∙ (accepted_by_all claim ops edit e).1)
+pub write_accepted : (held : RegisterState) (edit : Edit) (new : Op) → reply_to held edit ≡ None → new_op held.ops edit ≡ Some new → IsWrite new
+    → IsPermitted held.claim new × (kind_refusal held.claim.kind held.claim held.ops new ≡ None)
+write_accepted held edit new e is write =
+    by_cases (is_write new) write (sym (ap (new_write_refusal held.claim held.ops) is) ∙ (accepted_by_all held edit e).1)
   where
     is_writer : Bool
-    is_writer = may_write claim.writers new.process
+    is_writer = may_write held.claim.writers new.process
 
     has_value : Bool
-    has_value = is_in_domain claim.domain (value_of new.act)
+    has_value = is_in_domain held.claim.domain (value_of new.act)
 
-    by_cases : (t : Bool) → t ≡ true → cond t (first_present (refused_if (not is_writer) NotAWriter ∷ kind_refusal claim.kind claim ops new ∷ refused_if (not has_value) OutOfDomain ∷ [])) None ≡ None
-        → IsPermitted claim new × (kind_refusal claim.kind claim ops new ≡ None)
+    by_cases : (t : Bool) → t ≡ true → cond t (first_present (refused_if (not is_writer) NotAWriter ∷ kind_refusal held.claim.kind held.claim held.ops new ∷ refused_if (not has_value) OutOfDomain ∷ [])) None ≡ None
+        → IsPermitted held.claim new × (kind_refusal held.claim.kind held.claim held.ops new ≡ None)
     by_cases true t one =
-        let none = none_of_three (refused_if (not is_writer) NotAWriter) (kind_refusal claim.kind claim ops new) (refused_if (not has_value) OutOfDomain) one in (
+        let none = none_of_three (refused_if (not is_writer) NotAWriter) (kind_refusal held.claim.kind held.claim held.ops new) (refused_if (not has_value) OutOfDomain) one in (
           record {
             writer = not_false is_writer (not_refused (not is_writer) NotAWriter none.0);
             value = not_false has_value (not_refused (not has_value) OutOfDomain none.2);

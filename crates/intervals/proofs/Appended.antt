@@ -14,7 +14,7 @@ use Rattle.intervals.specs.Operation.{IsWrite, Overlaps, is_write, overlaps, sam
 use Rattle.intervals.specs.Edit.{op_of}
 use Rattle.intervals.specs.Refusal.{ends_by, has_large_moment, is_overlapped, kind_refusal, moment_taken, moments_refusal, overlap_refusal, reply_to, value_refusal, write_refusal}
 use Rattle.intervals.specs.Standing.{HasDistinctIds, IsHolder, IsInitial, IsMomentHolder, IsMomentOf, IsPermitted, ShareNoMoment, StandApart}
-use Rattle.intervals.specs.Terms.{ClaimModel}
+use Rattle.intervals.specs.Terms.{ClaimModel, state_of}
 use Rattle.intervals.proofs.Agreement.{Decides-overlaps}
 use Rattle.intervals.proofs.Claimed.{HaveOtherValues}
 use Rattle.intervals.proofs.Holders.{nobody_back}
@@ -34,7 +34,7 @@ late_end : (end : Option Moment) (begin : Moment) → IfSome end (λ e. begin.0 
 late_end None begin late = refl
 late_end (Some end) begin late = grind (arith, nat_tests)
 
-module _ (claim : ClaimModel) (front : List Op) (op : Op) (rest : List Op) (apart : StandApart claim (front ++ op ∷ rest)) where
+module _ (claim : ClaimModel) (front : List Op) (op : Op) (rest : List Op) (apart : StandApart (state_of claim (front ++ op ∷ rest))) where
   abbrev all : List Op
   all = front ++ op ∷ rest
 
@@ -105,5 +105,5 @@ module _ (claim : ClaimModel) (front : List Op) (op : Op) (rest : List Op) (apar
           rw (write, permitted.writer, kind_free write claim.kind refl, permitted.value) refl
       by_write false read = rw read refl
 
-  pub accepted_again : reply_to claim front (Append op) ≡ None
+  pub accepted_again : reply_to (state_of claim front) (Append op) ≡ None
   accepted_again = rw (new_id front op rest apart.ids, moments_free, write_free) refl

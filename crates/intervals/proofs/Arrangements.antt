@@ -116,23 +116,22 @@ keeps_both Safe claim ops = IsSafe-bare claim ops
 keeps_both Regular claim ops = IsRegular-bare claim ops
 keeps_both Atomic claim ops = atomic_both claim.known claim ops
 
-pub Holds-bare : (claim : ClaimModel) (ops : List Op) → Holds claim (map bare ops) ↔ Holds claim ops
-Holds-bare claim ops = keeps_both claim.kind claim ops
+pub Holds-bare : (held : RegisterState) → Holds (bare_held held) ↔ Holds held
+Holds-bare held = keeps_both held.claim.kind held.claim held.ops
 
 pub standing_bare : (claim : ClaimModel) (edits : List Edit) → bare_held (standing (unedited claim) (map bare_edit edits)) ≡ bare_held (standing (unedited claim) edits)
 standing_bare claim edits = standing_alike (unedited claim) (unedited claim) edits refl
 
 -- of two states that differ in texts alone, where one register holds the other does
-holds_alike : (one other : RegisterState) → bare_held one ≡ bare_held other → Holds one.claim one.ops → Holds other.claim other.ops
-holds_alike one other e h =
-    (Holds-bare other.claim other.ops).0 (subst (λ (held : RegisterState). Holds held.claim held.ops) e ((Holds-bare one.claim one.ops).1 h))
+holds_alike : (one other : RegisterState) → bare_held one ≡ bare_held other → Holds one → Holds other
+holds_alike one other e h = (Holds-bare other).0 (subst Holds e ((Holds-bare one).1 h))
 
 length_alike : (xs ys : List Op) → map bare xs ≡ map bare ys → length xs ≡ length ys
 length_alike xs ys e = sym (length-map xs bare) ∙ ap length e ∙ length-map ys bare
 
 pub decided_alike : (claim : ClaimModel) (edits others : List Edit) → map bare_edit edits ≡ map bare_edit others
     → let one = standing (unedited claim) edits in let other = standing (unedited claim) others in
-    (one.claim ≡ other.claim) × (Holds one.claim one.ops ↔ Holds other.claim other.ops) × (length one.ops ≡ length other.ops)
+    (one.claim ≡ other.claim) × (Holds one ↔ Holds other) × (length one.ops ≡ length other.ops)
 decided_alike claim edits others e =
     let one = standing (unedited claim) edits in
     let other = standing (unedited claim) others in

@@ -17,7 +17,7 @@ use Rattle.intervals.specs.declared.refusal.Refusal.TheVariants.{ValueTaken}
 use Rattle.intervals.specs.Least.{IsLeast, least_by}
 use Rattle.intervals.specs.Refusal.{begin_number, first_overlap, first_repeat, first_there, holder_of, id_with, ids_with, is_overlapped, overlap_claimed, overlap_of, overlaps_another, repeat_claimed, repeat_of, to_kind_refusal}
 use Rattle.intervals.specs.Standing.{HasDistinctIds, HasNoOverlappingWrites, HasOwnValues, IsHolder, IsInitial, IsPermitted, StandApart}
-use Rattle.intervals.specs.Terms.{ClaimModel}
+use Rattle.intervals.specs.Terms.{ClaimModel, state_of, RegisterState}
 use Rattle.intervals.proofs.Accepted.{one_writer_accepted}
 use Rattle.intervals.proofs.Agreement.{Decides-overlaps, false_unless}
 use Rattle.intervals.proofs.Found.{not_mapped}
@@ -215,25 +215,25 @@ module _ (claim : ClaimModel) where
           }
 
 -- where the claim is not refused, `StandApart` is true under the claimed kind
-pub claimed_apart : (kind : Kind) (claim : ClaimModel) (ops : List Op) → StandApart claim ops → to_kind_refusal kind claim ops ≡ None → StandApart (record claim { kind = kind }) ops
-claimed_apart kind claim ops apart e = record {
+pub claimed_apart : (kind : Kind) (held : RegisterState) → StandApart held → to_kind_refusal kind held.claim held.ops ≡ None → StandApart (state_of (record held.claim { kind = kind }) held.ops)
+claimed_apart kind held apart e = record {
   ids = apart.ids;
   moments = apart.moments;
   ends = apart.ends;
   low = apart.low;
-  allowed = All-weaker (λ w. IsWrite w → IsPermitted claim w) (λ w. IsWrite w → IsPermitted (record claim { kind = kind }) w) (λ w is write. record { writer = (is write).writer; value = (is write).value }) ops apart.allowed;
+  allowed = All-weaker (λ w. IsWrite w → IsPermitted held.claim w) (λ w. IsWrite w → IsPermitted (record held.claim { kind = kind }) w) (λ w is write. record { writer = (is write).writer; value = (is write).value }) held.ops apart.allowed;
   writes = one_by_one kind e;
   values = told_apart kind e;
 }
   where
-    one_by_one : (kind : Kind) → to_kind_refusal kind claim ops ≡ None → kind ≢ Atomic → HasNoOverlappingWrites ops
-    one_by_one Safe e one_writer = none_overlap ops (not_mapped overlap_claimed (first_overlap ops) (one_writer_accepted claim ops e).2) apart.ids
-    one_by_one Regular e one_writer = none_overlap ops (not_mapped overlap_claimed (first_overlap ops) (one_writer_accepted claim ops e).2) apart.ids
+    one_by_one : (kind : Kind) → to_kind_refusal kind held.claim held.ops ≡ None → kind ≢ Atomic → HasNoOverlappingWrites held.ops
+    one_by_one Safe e one_writer = none_overlap held.ops (not_mapped overlap_claimed (first_overlap held.ops) (one_writer_accepted held.claim held.ops e).2) apart.ids
+    one_by_one Regular e one_writer = none_overlap held.ops (not_mapped overlap_claimed (first_overlap held.ops) (one_writer_accepted held.claim held.ops e).2) apart.ids
     one_by_one Atomic e one_writer = absurd (one_writer refl)
 
-    told_apart : (of_kind : Kind) → to_kind_refusal of_kind claim ops ≡ None → of_kind ≡ Atomic → HasOwnValues (record claim { kind = kind }) ops
+    told_apart : (of_kind : Kind) → to_kind_refusal of_kind held.claim held.ops ≡ None → of_kind ≡ Atomic → HasOwnValues (record held.claim { kind = kind }) held.ops
     told_apart Safe e atomic = absurd (cc)
     told_apart Regular e atomic = absurd (cc)
     told_apart Atomic e atomic =
-        let values = none_repeat claim ops apart.ids (not_mapped repeat_claimed (first_repeat claim [] ops) e) in
+        let values = none_repeat held.claim held.ops apart.ids (not_mapped repeat_claimed (first_repeat held.claim [] held.ops) e) in
         record { apart = values.apart; new = values.new }

@@ -207,24 +207,24 @@ to_kind-bare Safe claim ops = rw (first_overlap-bare ops) refl
 to_kind-bare Regular claim ops = rw (first_overlap-bare ops) refl
 to_kind-bare Atomic claim ops = ap (option_map repeat_claimed) (first_repeat-bare claim [] ops)
 
-pub reply_to-bare : (claim : ClaimModel) (ops : List Op) (edit : Edit) → reply_to claim (map bare ops) (bare_edit edit) ≡ reply_to claim ops edit
-reply_to-bare claim ops (Append op) =
-    λ i. first_present (cond (known_bare ops op.id i) (Some OpTaken) (moments_bare ops op i) ∷ (same_write claim (map bare ops) op ∙ write_bare claim ops op) i ∷ None ∷ [])
-reply_to-bare claim ops (Amend id change) = ap reply_of (op_of-bare ops id) ∙ by_found (op_of ops id)
+pub reply_to-bare : (held : RegisterState) (edit : Edit) → reply_to (bare_held held) (bare_edit edit) ≡ reply_to held edit
+reply_to-bare held (Append op) =
+    λ i. first_present (cond (known_bare held.ops op.id i) (Some OpTaken) (moments_bare held.ops op i) ∷ (same_write held.claim (map bare held.ops) op ∙ write_bare held.claim held.ops op) i ∷ None ∷ [])
+reply_to-bare held (Amend id change) = ap reply_of (op_of-bare held.ops id) ∙ by_found (op_of held.ops id)
   where
     reply_of : Option Op → Option Refusal
     reply_of found =
         let new = option_map (λ op. changed op (bare_change change)) found in
-        first_present (amendment_refusal (map bare ops) new ∷ new_write_refusal claim (map bare ops) new ∷ None ∷ [])
+        first_present (amendment_refusal (map bare held.ops) new ∷ new_write_refusal held.claim (map bare held.ops) new ∷ None ∷ [])
 
-    by_found : (found : Option Op) → reply_of (option_map bare found) ≡ (let new = option_map (λ op. changed op change) found in first_present (amendment_refusal ops new ∷ new_write_refusal claim ops new ∷ None ∷ []))
+    by_found : (found : Option Op) → reply_of (option_map bare found) ≡ (let new = option_map (λ op. changed op change) found in first_present (amendment_refusal held.ops new ∷ new_write_refusal held.claim held.ops new ∷ None ∷ []))
     by_found None = refl
     by_found (Some op) =
-        sym (same_new claim (map bare ops) (changed (bare op) (bare_change change)))
-        ∙ same_new claim (map bare ops) (changed op change)
-        ∙ new_bare claim ops (changed op change)
-reply_to-bare claim ops (Withdraw id) = λ i. first_present (cond (known_bare ops id i) None (Some UnknownOp) ∷ None ∷ None ∷ [])
-reply_to-bare claim ops (Claim kind) = λ i. first_present (first_present (refused_if claim.fixed ClaimFixed ∷ to_kind-bare kind claim ops i ∷ []) ∷ [])
+        sym (same_new held.claim (map bare held.ops) (changed (bare op) (bare_change change)))
+        ∙ same_new held.claim (map bare held.ops) (changed op change)
+        ∙ new_bare held.claim held.ops (changed op change)
+reply_to-bare held (Withdraw id) = λ i. first_present (cond (known_bare held.ops id i) None (Some UnknownOp) ∷ None ∷ None ∷ [])
+reply_to-bare held (Claim kind) = λ i. first_present (first_present (refused_if held.claim.fixed ClaimFixed ∷ to_kind-bare kind held.claim held.ops i ∷ []) ∷ [])
 
 -- what stands
 
@@ -262,7 +262,7 @@ claim_bare claim (Withdraw id) = refl
 claim_bare claim (Claim kind) = refl
 
 after_bare : (held : RegisterState) (edit : Edit) → bare_held (after_edit (bare_held held) (bare_edit edit)) ≡ bare_held (after_edit held edit)
-after_bare held edit = ap after (reply_to-bare held.claim held.ops edit) ∙ by_cases (is_some (reply_to held.claim held.ops edit))
+after_bare held edit = ap after (reply_to-bare held edit) ∙ by_cases (is_some (reply_to held edit))
   where
     after : Option Refusal → RegisterState
     after reply = bare_held (cond (is_some reply) (bare_held held) (carried_out (bare_held held) (bare_edit edit)))

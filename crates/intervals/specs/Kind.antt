@@ -5,7 +5,7 @@ use Rattle.intervals.specs.declared.operation.Op.{Op}
 use Rattle.intervals.specs.declared.operation.Value.{Value}
 use Rattle.intervals.specs.declared.operation.Act.{Act}
 use Rattle.intervals.specs.declared.operation.Act.TheVariants.{Read, Write}
-use Rattle.intervals.specs.Terms.{ClaimModel}
+use Rattle.intervals.specs.Terms.{ClaimModel, RegisterState}
 use Rattle.intervals.specs.declared.claim.Kind.{Kind}
 use Rattle.intervals.specs.declared.claim.Kind.TheVariants.{Safe, Regular, Atomic}
 use Rattle.intervals.specs.Operation.{Precedes, Overlaps, IsWrite, IsJudgedRead, value_of, judged}
@@ -114,5 +114,5 @@ Keeps Regular claim ops = IsRegular claim ops
 Keeps Atomic claim ops = IsAtomic claim ops
 
 -- a register holds: its operations keep what its claimed kind promises
-abbrev pub Holds : ClaimModel → List Op → Type 0
-Holds claim ops = Keeps claim.kind claim ops
+abbrev pub Holds : RegisterState → Type 0
+Holds held = Keeps held.claim.kind held.claim held.ops

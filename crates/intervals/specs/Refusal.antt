@@ -236,8 +236,9 @@ claim_refusal claim ops (Withdraw id) = None
 claim_refusal claim ops (Claim kind) = first_present (refused_if claim.fixed ClaimFixed ∷ to_kind_refusal kind claim ops ∷ [])
 
 -- the reply to an edit: the first of X1 to X5, X6 to X9 and those of `claim_refusal` that it meets; none where accepted
-abbrev pub reply_to : ClaimModel → List Op → Edit → Option Refusal
-reply_to claim ops edit = first_present (first_refusal ops edit ∷ new_write_refusal claim ops (new_op ops edit) ∷ claim_refusal claim ops edit ∷ [])
+abbrev pub reply_to : RegisterState → Edit → Option Refusal
+reply_to held edit =
+    first_present (first_refusal held.ops edit ∷ new_write_refusal held.claim held.ops (new_op held.ops edit) ∷ claim_refusal held.claim held.ops edit ∷ [])
 
 -- the state of a register after the edit, which is carried out whether or not it would be accepted
 abbrev pub carried_out : RegisterState → Edit → RegisterState
@@ -245,7 +246,7 @@ carried_out held edit = record { claim = claim_after held.claim edit; ops = edit
 
 -- the state of a register after the edit: carried out where it is accepted, else as before
 abbrev pub after_edit : RegisterState → Edit → RegisterState
-after_edit held edit = if is_some (reply_to held.claim held.ops edit) then held else carried_out held edit
+after_edit held edit = if is_some (reply_to held edit) then held else carried_out held edit
 
 -- the state of a register after the edits, one by one, of which those that are refused change nothing
 abbrev pub standing : RegisterState → List Edit → RegisterState

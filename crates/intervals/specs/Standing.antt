@@ -9,7 +9,7 @@ use Rattle.intervals.specs.Operation.{IsWrite, Overlaps, value_of}
 use Rattle.intervals.specs.Edit.{op_of}
 use Rattle.intervals.specs.Refusal.{has_large_moment, may_write, is_in_domain}
 use Rattle.intervals.specs.Kind.{HasNoWrite}
-use Rattle.intervals.specs.Terms.{ClaimModel}
+use Rattle.intervals.specs.Terms.{ClaimModel, RegisterState}
 
 -- no two operations of the list have the same id
 abbrev pub HasDistinctIds : List Op → Type 0
@@ -69,11 +69,11 @@ pub record IsPermitted (claim : ClaimModel) (w : Op) : Type 0 where
 
 -- what is so after any edits: ids and moments are distinct, ends after beginnings, no moment too large, each write
 -- permitted; on a safe or regular register no writes overlap, on an atomic one `HasOwnValues`
-pub record StandApart (claim : ClaimModel) (ops : List Op) : Type 0 where
-  pub ids : HasDistinctIds ops
-  pub moments : HasDistinctMoments ops
-  pub ends : HasEndsAfterBeginnings ops
-  pub low : All (λ op. has_large_moment op ≡ false) ops
-  pub allowed : All (λ w. IsWrite w → IsPermitted claim w) ops
-  pub writes : claim.kind ≢ Atomic → HasNoOverlappingWrites ops
-  pub values : claim.kind ≡ Atomic → HasOwnValues claim ops
+pub record StandApart (held : RegisterState) : Type 0 where
+  pub ids : HasDistinctIds held.ops
+  pub moments : HasDistinctMoments held.ops
+  pub ends : HasEndsAfterBeginnings held.ops
+  pub low : All (λ op. has_large_moment op ≡ false) held.ops
+  pub allowed : All (λ w. IsWrite w → IsPermitted held.claim w) held.ops
+  pub writes : held.claim.kind ≢ Atomic → HasNoOverlappingWrites held.ops
+  pub values : held.claim.kind ≡ Atomic → HasOwnValues held.claim held.ops

@@ -57,6 +57,10 @@ pub record RegisterState : Type 0 where
   pub claim : ClaimModel
   pub ops : List Op
 
+-- the state of a register with this claim, under which these operations stand
+abbrev pub state_of : ClaimModel → List Op → RegisterState
+state_of claim ops = record { claim = claim; ops = ops }
+
 -- the state of a register before any edit: the claim, and no operation
 abbrev pub unedited : ClaimModel → RegisterState
-unedited claim = record { claim = claim; ops = [] }
+unedited claim = state_of claim []

@@ -9,13 +9,13 @@ ghost use Rattle.intervals.specs.declared.claim.Holder.{Holder};
 ghost use Rattle.intervals.specs.declared.claim.Holder.TheVariants as holders;
 ghost use Rattle.intervals.specs.declared.edit.Edit.{Edit};
 ghost use Rattle.intervals.specs.declared.edit.Edit.TheVariants.{Append, Withdraw, Claim as ToKind};
-ghost use Rattle.intervals.specs.Terms.{ClaimModel, RegisterState, IsKnownUnlessAtomic, unedited};
+ghost use Rattle.intervals.specs.Terms.{ClaimModel, RegisterState, IsKnownUnlessAtomic, unedited, state_of};
 ghost use Rattle.intervals.specs.declared.claim.Kind.TheVariants.{Safe, Regular, Atomic};
 ghost use Rattle.intervals.specs.declared.operation.Act.TheVariants.{Read, Write};
 ghost use Rattle.intervals.specs.declared.operation.Value.TheVariants.{Nil};
 ghost use Rattle.intervals.specs.Operation.{Precedes, Overlaps, IsWrite, IsJudgedRead, value_of, judged, writes};
 ghost use Rattle.intervals.specs.Edit.{op_of};
-ghost use Rattle.intervals.specs.Bare.{bare, bare_edit, bare_held};
+ghost use Rattle.intervals.specs.Bare.{bare_edit, bare_held};
 ghost use Rattle.intervals.specs.Refusal.{first_refusal, moments_refusal, moment_taken, write_refusal, overlap_refusal, is_overlapped, value_refusal, holder_of, overlaps_another, first_overlap, first_repeat, reply_to, carried_out, standing};
 ghost use Rattle.intervals.specs.Standing.{HasDistinctIds, HasNoOverlappingWrites, HasOwnValues, StandApart, IsHolder, IsInitial, IsMomentHolder};
 ghost use Rattle.intervals.specs.Least.{IsLeast, least_by};
@@ -107,10 +107,10 @@ pub fn first_repeat_was_appended_first()
 /// known. Each accepted edit keeps this under the kind that is claimed then; no safe or regular register comes to
 /// have an unknown initial value; and of the claim nothing but the kind changes.
 pub fn edits_keep_operations_apart()
-    ensures apart { (claim : ClaimModel) (edits : List Edit) → let held = standing (unedited claim) edits in StandApart held.claim held.ops }
-    ensures carried_out { (held : RegisterState) (edit : Edit) → StandApart held.claim held.ops → reply_to held.claim held.ops edit ≡ None
-        → let after = carried_out held edit in StandApart after.claim after.ops }
-    ensures known_after { (held : RegisterState) (edit : Edit) → IsKnownUnlessAtomic held.claim → reply_to held.claim held.ops edit ≡ None
+    ensures apart { (claim : ClaimModel) (edits : List Edit) → StandApart (standing (unedited claim) edits) }
+    ensures carried_out { (held : RegisterState) (edit : Edit) → StandApart held → reply_to held edit ≡ None
+        → StandApart (carried_out held edit) }
+    ensures known_after { (held : RegisterState) (edit : Edit) → IsKnownUnlessAtomic held.claim → reply_to held edit ≡ None
         → IsKnownUnlessAtomic (carried_out held edit).claim }
     ensures known { (claim : ClaimModel) (edits : List Edit) → IsKnownUnlessAtomic claim → IsKnownUnlessAtomic (standing (unedited claim) edits).claim }
     ensures claim { (claim : ClaimModel) (edits : List Edit) → let after = (standing (unedited claim) edits).claim in after ≡ record claim { kind = after.kind } }
@@ -118,7 +118,7 @@ pub fn edits_keep_operations_apart()
 
 /// Operations for which `StandApart` is true can be appended again in their order, each to those before it.
 pub fn operations_apart_are_accepted()
-    ensures { (claim : ClaimModel) (front rest : List Op) (op : Op) → StandApart claim (front ++ op ∷ rest) → reply_to claim front (Append op) ≡ None }
+    ensures { (claim : ClaimModel) (front rest : List Op) (op : Op) → StandApart (state_of claim (front ++ op ∷ rest)) → reply_to (state_of claim front) (Append op) ≡ None }
 {}
 
 /// Reads without an end change neither the verdict of a safe or regular register nor the refusal of a write.
@@ -138,12 +138,12 @@ pub fn writes_alone_decide()
 
 /// The texts that operations lend decide no reply and no verdict, and of what stands nothing but its texts.
 pub fn texts_decide_nothing()
-    ensures reply { (claim : ClaimModel) (ops : List Op) (edit : Edit) → reply_to claim (map bare ops) (bare_edit edit) ≡ reply_to claim ops edit }
+    ensures reply { (held : RegisterState) (edit : Edit) → reply_to (bare_held held) (bare_edit edit) ≡ reply_to held edit }
     ensures standing { (claim : ClaimModel) (edits : List Edit) → bare_held (standing (unedited claim) (map bare_edit edits)) ≡ bare_held (standing (unedited claim) edits) }
-    ensures verdict { (claim : ClaimModel) (ops : List Op) → Holds claim (map bare ops) ↔ Holds claim ops }
+    ensures verdict { (held : RegisterState) → Holds (bare_held held) ↔ Holds held }
     ensures alike { (claim : ClaimModel) (edits others : List Edit) → map bare_edit edits ≡ map bare_edit others
         → let one = standing (unedited claim) edits in let other = standing (unedited claim) others in
-        (one.claim ≡ other.claim) × (Holds one.claim one.ops ↔ Holds other.claim other.ops) × (length one.ops ≡ length other.ops) }
+        (one.claim ≡ other.claim) × (Holds one ↔ Holds other) × (length one.ops ≡ length other.ops) }
 {}
 
 /// Safe registers: which reads are right after a write, and within one.
@@ -200,17 +200,17 @@ pub fn worked_writes()
 
 /// The refusals of a claim (X10 to X14), asked in their order, and what is held after claims.
 pub fn worked_claims()
-    ensures fixed { reply_to (record (claim_of_one Safe) { fixed = true }) [] (ToKind Safe) ≡ Some ClaimFixed }
-    ensures writers { reply_to (plain_claim Atomic (number 0) None) writes_over_writes (ToKind Regular) ≡ Some ClaimWriters }
-    ensures overlap { reply_to (claim_of_one Atomic) writes_over_writes (ToKind Safe) ≡ Some (ClaimOverlap (place 2) (place 3)) }
-    ensures other_overlap { reply_to (claim_of_one Atomic) (take 2 writes_over_writes) (ToKind Safe) ≡ Some (ClaimOverlap (place 5) (place 6)) }
-    ensures no_overlap { reply_to (claim_of_one Atomic) (take 1 writes_over_writes) (ToKind Safe) ≡ None }
-    ensures repeat { reply_to (claim_of_one Safe) writes_over_writes (ToKind Atomic) ≡ Some (ClaimRepeats (place 3) (holders.Op (place 6))) }
-    ensures initial { reply_to (claim_of_one Safe) (from_to 0 (Write (number 0)) 0 1 ∷ []) (ToKind Atomic) ≡ Some (ClaimRepeats (place 0) holders.Initial) }
-    ensures unknown { reply_to (record (claim_of_one Atomic) { known = false }) writes_over_writes (ToKind Safe) ≡ Some ClaimInitial }
-    ensures unknown_writers { reply_to (record (plain_claim Atomic Nil None) { known = false }) [] (ToKind Regular) ≡ Some ClaimWriters }
-    ensures unknown_value { reply_to (record (plain_claim Atomic (number 1) None) { known = false }) [] (Append (from_to 0 (Write (number 1)) 0 1)) ≡ None }
-    ensures no_repeat { reply_to (claim_of_one Safe) (take 3 writes_over_writes) (ToKind Atomic) ≡ None }
+    ensures fixed { reply_to (state_of (record (claim_of_one Safe) { fixed = true }) []) (ToKind Safe) ≡ Some ClaimFixed }
+    ensures writers { reply_to (state_of (plain_claim Atomic (number 0) None) writes_over_writes) (ToKind Regular) ≡ Some ClaimWriters }
+    ensures overlap { reply_to (state_of (claim_of_one Atomic) writes_over_writes) (ToKind Safe) ≡ Some (ClaimOverlap (place 2) (place 3)) }
+    ensures other_overlap { reply_to (state_of (claim_of_one Atomic) (take 2 writes_over_writes)) (ToKind Safe) ≡ Some (ClaimOverlap (place 5) (place 6)) }
+    ensures no_overlap { reply_to (state_of (claim_of_one Atomic) (take 1 writes_over_writes)) (ToKind Safe) ≡ None }
+    ensures repeat { reply_to (state_of (claim_of_one Safe) writes_over_writes) (ToKind Atomic) ≡ Some (ClaimRepeats (place 3) (holders.Op (place 6))) }
+    ensures initial { reply_to (state_of (claim_of_one Safe) (from_to 0 (Write (number 0)) 0 1 ∷ [])) (ToKind Atomic) ≡ Some (ClaimRepeats (place 0) holders.Initial) }
+    ensures unknown { reply_to (state_of (record (claim_of_one Atomic) { known = false }) writes_over_writes) (ToKind Safe) ≡ Some ClaimInitial }
+    ensures unknown_writers { reply_to (state_of (record (plain_claim Atomic Nil None) { known = false }) []) (ToKind Regular) ≡ Some ClaimWriters }
+    ensures unknown_value { reply_to (state_of (record (plain_claim Atomic (number 1) None) { known = false }) []) (Append (from_to 0 (Write (number 1)) 0 1)) ≡ None }
+    ensures no_repeat { reply_to (state_of (claim_of_one Safe) (take 3 writes_over_writes)) (ToKind Atomic) ≡ None }
     ensures turned { standing (unedited (claim_of_one Atomic)) claims_and_writes ≡ record { claim = claim_of_one Regular; ops = from_to 0 (Write (number 1)) 0 1 ∷ from_to 2 (Write (number 1)) 2 3 ∷ [] } }
 {}
 

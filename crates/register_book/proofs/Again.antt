@@ -6,7 +6,7 @@ use Rattle.intervals.specs.declared.edit.Edit.TheVariants.{Append}
 use Rattle.intervals.specs.Refusal.{reply_to}
 use Rattle.intervals.specs.Standing.{StandApart}
 use Rattle.intervals.specs.Table.{ops_in_slots, slot_at}
-use Rattle.intervals.specs.Terms.{ClaimModel, RegisterState}
+use Rattle.intervals.specs.Terms.{ClaimModel, RegisterState, state_of}
 use Rattle.intervals.proofs.Appended.{accepted_again}
 use Rattle.intervals.proofs.Fronts.{all_in_front, all_of, front_of, front_none, front_some, rest_of, rest_some}
 use Rattle.intervals.specs.Operation.{is_write, writes}
@@ -32,11 +32,11 @@ module _ (claim : ClaimModel) (slots : List (Option Op)) where
   abbrev pub HeldAgain : ℕ → BookModel → Type 0
   HeldAgain k held = claimed_of held ≡ record { claim = claim; ops = front_of slots k }
 
-  pub accepted_next : (k : ℕ) (op : Op) (held : BookModel) → StandApart claim (ops_in_slots slots) → slot_at slots k ≡ Some op → HeldAgain k held → reply_to held.claim held.ops (Append op) ≡ None
+  pub accepted_next : (k : ℕ) (op : Op) (held : BookModel) → StandApart (state_of claim (ops_in_slots slots)) → slot_at slots k ≡ Some op → HeldAgain k held → reply_to (claimed_of held) (Append op) ≡ None
   accepted_next k op held apart at is =
       let parted : ops_in_slots slots ≡ front_of slots k ++ op ∷ rest_of slots (suc k) = all_of slots k ∙ ap (λ (rest : List Op). front_of slots k ++ rest) (rest_some slots k op at) in
-      subst (λ (c : RegisterState). reply_to c.claim c.ops (Append op) ≡ None) (sym is)
-      (accepted_again claim (front_of slots k) op (rest_of slots (suc k)) (subst (StandApart claim) parted apart))
+      subst (λ (c : RegisterState). reply_to c (Append op) ≡ None) (sym is)
+      (accepted_again claim (front_of slots k) op (rest_of slots (suc k)) (subst (λ (l : List Op). StandApart (state_of claim l)) parted apart))
 
   pub held_on : (k : ℕ) (op : Op) (before after : BookModel) → HeldAgain k before → slot_at slots k ≡ Some op → after ≡ record before { ops = before.ops ++ op ∷ []; steps = after.steps } → HeldAgain (k + 1) after
   held_on k op before after is at e =

@@ -2,6 +2,8 @@
 pub mod Again
 -- a check: its error is the refusal
 pub mod Refusals
+-- an edit: the state after it, by the reply
+pub mod Replied
 -- a safe or regular register: no read is wrong exactly where it keeps its claim
 pub mod Verdicts
 -- a witness: its operations stand, and each is found by its id

@@ -13,9 +13,9 @@ use Rattle.register_book.specs.declared.reply.Reply.TheVariants.{Accepted, Refus
 -- the reply to the edit: the first refusal whose condition holds, or, where there is none, that the edit is accepted,
 -- and whether the register keeps its claim after it
 abbrev pub IsReply : RegisterState → Edit → Reply → Type 0
-IsReply held edit (Refused refusal) = reply_to held.claim held.ops edit ≡ Some refusal
+IsReply held edit (Refused refusal) = reply_to held edit ≡ Some refusal
 IsReply held edit (Accepted holds) =
-    (reply_to held.claim held.ops edit ≡ None) × (IsTrue holds ↔ Holds (after_edit held edit).claim (after_edit held edit).ops)
+    (reply_to held edit ≡ None) × (IsTrue holds ↔ Holds (after_edit held edit))
 
 -- the edit claims another kind than this one
 abbrev pub IsTurn : Kind → Edit → Type 0

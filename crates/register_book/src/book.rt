@@ -37,11 +37,12 @@ impl<'t> Model for RegisterBook<'t> {
     ghost Value = { BookModel };
 
     ghost use Rattle.intervals.specs.Standing.{StandApart};
+    ghost use Rattle.register_book.specs.BookModel.{claimed_of};
     ghost use Rattle.register_book.specs.Judge.{held_by, kept_by, IsOfItsKind, HasNonePrepared};
 
     ghost view = { λ b. kept_by b.judge b.gone };
 
-    ghost invariant = { λ b. IsOfItsKind b.judge × HasNonePrepared b.judge × StandApart (held_by b.judge).claim (held_by b.judge).ops };
+    ghost invariant = { λ b. IsOfItsKind b.judge × HasNonePrepared b.judge × StandApart (claimed_of (held_by b.judge)) };
 }
 
 impl<'t> RegisterBook<'t> {
@@ -94,7 +95,7 @@ impl<'t> RegisterBook<'t> {
         ensures reply { IfOk result (λ reply. IsReply (claimed_of self.old) edit.entry reply) }
         ensures after { OnOk result (claimed_of self.new ≡ after_edit (claimed_of self.old) edit.entry) }
         ensures err { OnErr result (self.new ≡ self.old) }
-        ensures memory { OnErr result (reply_to self.old.claim self.old.ops edit.entry ≡ None) }
+        ensures memory { OnErr result (reply_to (claimed_of self.old) edit.entry ≡ None) }
         ensures withdrawal { OnErr result (TakesMemory (claimed_of self.old) edit.entry) }
         ensures steps { is_claim edit.entry ≡ false → self.new.steps ≤ self.old.steps + most_steps self.old.ops }
         ensures rises { self.old.steps ≤ self.new.steps }
@@ -113,7 +114,7 @@ impl<'t> RegisterBook<'t> {
     }
 
     fn apply_accepted(&mut self, edit: &Edit<'t>, target: &Target<'t>) -> Result<(), Memory>
-        requires accepted { reply_to self.old.claim self.old.ops edit.now ≡ None }
+        requires accepted { reply_to (claimed_of self.old) edit.now ≡ None }
         requires target { IsTargetOf self.old.ops edit.now target.now }
         ensures ok { OnOk result (claimed_of self.new ≡ carried_out (claimed_of self.old) edit.now) }
         ensures err { OnErr result (self.new ≡ self.old) }
@@ -159,7 +160,7 @@ impl<'t> RegisterBook<'t> {
     /// Whether the register keeps the sentence of its kind; where its initial value is unknown, whether it does
     /// for some initial value that no write carries.
     pub fn holds(&self) -> bool
-        ensures { IsTrue result ↔ Holds self.now.claim self.now.ops }
+        ensures { IsTrue result ↔ Holds (claimed_of self.now) }
     {
         self.judge.holds()
     }
@@ -167,7 +168,7 @@ impl<'t> RegisterBook<'t> {
     /// The operations that show that the register fails, by their ids; `None` where it holds.
     pub fn fault(&self) -> Option<Fault>
         ensures fault { IfSome result (λ fault. (witness : AWitness) × IsWitness self.now.claim self.now.ops witness × (ids_of witness ≡ fault)) }
-        ensures none { IsNone result ↔ Holds self.now.claim self.now.ops }
+        ensures none { IsNone result ↔ Holds (claimed_of self.now) }
     {
         let witness = self.witness()?;
         Some(witness.ids())
@@ -177,7 +178,7 @@ impl<'t> RegisterBook<'t> {
     /// trace, and not by the book.
     pub fn witness(&self) -> Option<Witness<'t>>
         ensures witness { IfSome result (IsWitness self.now.claim self.now.ops) }
-        ensures none { IsNone result ↔ Holds self.now.claim self.now.ops }
+        ensures none { IsNone result ↔ Holds (claimed_of self.now) }
         ensures stand { IfSome result (λ witness. All (λ op. op_of self.now.ops op.id ≡ Some op) (operations_of witness)) }
     {
         a_witness_is_present();
@@ -188,9 +189,9 @@ impl<'t> RegisterBook<'t> {
     /// edges of their zones, in each the write and then its reads by their beginnings. `None` where the register
     /// is not atomic or does not hold.
     pub fn order(&self, alloc: Global) -> Result<Option<Vec<OpId>>, Memory>
-        ensures order { IfOk result (λ found. IfSome found (λ ids. IsOrder (with_start self.now.claim self.now.ops) self.now.ops ids.items)) }
-        ensures none { IfOk result (λ found. IsNone found ↔ ¬ ((self.now.claim.kind ≡ Kind.Atomic) × Holds self.now.claim self.now.ops)) }
-        ensures memory { OnErr result ((self.now.claim.kind ≡ Kind.Atomic) × Holds self.now.claim self.now.ops) }
+        ensures order { IfOk result (λ found. IfSome found (λ ids. IsOrder (with_start (claimed_of self.now)) self.now.ops ids.items)) }
+        ensures none { IfOk result (λ found. IsNone found ↔ ¬ ((self.now.claim.kind ≡ Kind.Atomic) × Holds (claimed_of self.now))) }
+        ensures memory { OnErr result ((self.now.claim.kind ≡ Kind.Atomic) × Holds (claimed_of self.now)) }
     {
         self.judge.order(alloc)
     }

@@ -45,7 +45,7 @@ impl<'t> Judge<'t> {
 
     /// A judge of the same operations under another kind. They are appended to it again, in their order.
     pub fn as_kind(&self, alloc: Global, kind: Kind) -> Result<Self, Memory>
-        requires apart { StandApart (held_by self.now).claim (held_by self.now).ops }
+        requires apart { StandApart (claimed_of (held_by self.now)) }
         requires accepted { to_kind_refusal kind (held_by self.now).claim (held_by self.now).ops ≡ None }
         ensures held { IfOk result (λ judge. claimed_of (held_by judge) ≡ record { claim = record (held_by self.now).claim { kind = kind }; ops = (held_by self.now).ops }) }
         ensures steps { IfOk result (λ judge. (held_by judge).steps ≤ length (held_by self.now).ops * most_steps (held_by self.now).ops) }
@@ -96,7 +96,7 @@ impl<'t> Judge<'t> {
     /// Carries out an edit that nothing refuses. The room that it needs is made first, so where memory is refused
     /// nothing has changed.
     pub fn admit(&mut self, edit: &Edit<'t>, target: &Target<'t>) -> Result<(), Memory>
-        requires accepted { reply_to (held_by self.old).claim (held_by self.old).ops edit.now ≡ None }
+        requires accepted { reply_to (claimed_of (held_by self.old)) edit.now ≡ None }
         requires target { IsTargetOf (held_by self.old).ops edit.now target.now }
         requires none_prepared { HasNonePrepared self.old }
         ensures ok { OnOk result (held_by self.new ≡ record (held_by self.old) { ops = edited (held_by self.old).ops edit.now; steps = (held_by self.new).steps }) }
@@ -126,7 +126,7 @@ impl<'t> Judge<'t> {
 
     pub fn holds(&self) -> bool
         requires { IsOfItsKind self.now }
-        ensures { IsTrue result ↔ Holds (held_by self.now).claim (held_by self.now).ops }
+        ensures { IsTrue result ↔ Holds (claimed_of (held_by self.now)) }
     {
         match self {
             Judge::One(judge) => judge.holds(),
@@ -138,7 +138,7 @@ impl<'t> Judge<'t> {
         requires kind { IsOfItsKind self.now }
         requires ids { HasDistinctIds (held_by self.now).ops }
         ensures witness { IfSome result (IsWitness (held_by self.now).claim (held_by self.now).ops) }
-        ensures none { IsNone result ↔ Holds (held_by self.now).claim (held_by self.now).ops }
+        ensures none { IsNone result ↔ Holds (claimed_of (held_by self.now)) }
     {
         match self {
             Judge::One(judge) => wrong_read_of(judge),
@@ -148,9 +148,9 @@ impl<'t> Judge<'t> {
 
     pub fn order(&self, alloc: Global) -> Result<Option<Vec<OpId>>, Memory>
         requires { IsOfItsKind self.now }
-        ensures order { IfOk result (λ found. IfSome found (λ ids. IsOrder (with_start (held_by self.now).claim (held_by self.now).ops) (held_by self.now).ops ids.items)) }
-        ensures none { IfOk result (λ found. IsNone found ↔ ¬ (((held_by self.now).claim.kind ≡ Kind.Atomic) × Holds (held_by self.now).claim (held_by self.now).ops)) }
-        ensures memory { OnErr result (((held_by self.now).claim.kind ≡ Kind.Atomic) × Holds (held_by self.now).claim (held_by self.now).ops) }
+        ensures order { IfOk result (λ found. IfSome found (λ ids. IsOrder (with_start (claimed_of (held_by self.now))) (held_by self.now).ops ids.items)) }
+        ensures none { IfOk result (λ found. IsNone found ↔ ¬ (((held_by self.now).claim.kind ≡ Kind.Atomic) × Holds (claimed_of (held_by self.now)))) }
+        ensures memory { OnErr result (((held_by self.now).claim.kind ≡ Kind.Atomic) × Holds (claimed_of (held_by self.now))) }
     {
         match self {
             Judge::One(_) => Ok(None),

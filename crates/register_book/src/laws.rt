@@ -43,7 +43,7 @@ pub fn a_witness_excludes_every_arrangement()
     ensures excludes { (claim : ClaimModel) (ops : List Op) (witness : Witness) → HasOwnValues claim ops → IsExcluding claim ops witness
         → ¬ IsAtomic claim ops }
     ensures after_edits { (claim : ClaimModel) (edits : List Edit) (witness : Witness) → let held = standing (unedited claim) edits in held.claim.kind ≡ Atomic
-        → IsExcluding held.claim held.ops witness → ¬ Holds held.claim held.ops }
+        → IsExcluding held.claim held.ops witness → ¬ Holds held }
 {
     first_unwritten_ended_first();
     first_split_ended_first();

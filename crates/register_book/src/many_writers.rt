@@ -3,6 +3,7 @@
 ghost use Rattle.std.specs.Prelude.{◌≡◌, ◌↔◌, IfSome, IsNone};
 ghost use Rattle.intervals.specs.Standing.{HasDistinctIds};
 ghost use Rattle.intervals.specs.Kind.{Holds};
+ghost use Rattle.intervals.specs.Terms.{state_of};
 ghost use Rattle.zones.specs.AtFirst.{first_split, unwritten_of};
 ghost use Rattle.zones.specs.Fault.{first_early};
 ghost use Rattle.register_book.specs.Fault.{IsWitness, side_op};
@@ -21,7 +22,7 @@ pub fn witness_of<'t>(clusters: &Clusters<'t>) -> Option<Witness<'t>>
     requires kind { clusters.now.claim.kind ≡ Kind.Atomic }
     requires ids { HasDistinctIds clusters.now.ops }
     ensures witness { IfSome result (IsWitness clusters.now.claim clusters.now.ops) }
-    ensures none { IsNone result ↔ Holds clusters.now.claim clusters.now.ops }
+    ensures none { IsNone result ↔ Holds (state_of clusters.now.claim clusters.now.ops) }
 {
     faultless_where_no_fault_is_first();
     if clusters.holds() {

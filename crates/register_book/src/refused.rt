@@ -6,6 +6,7 @@ ghost use Rattle.intervals.specs.Refusal.{reply_to, first_refusal, new_write_ref
 ghost use Rattle.intervals.specs.Standing.{StandApart};
 ghost use Rattle.register_book.specs.Judge.{held_by};
 ghost use Rattle.register_book.specs.Reply.{IsTurn};
+ghost use Rattle.register_book.specs.BookModel.{claimed_of};
 
 use crate::judge::Judge;
 use intervals::laws::{first_overlap_began_first, first_repeat_was_appended_first};
@@ -20,10 +21,10 @@ pub fn refusal_of<'t>(
     edit: &Edit<'t>,
     target: &Target<'t>,
 ) -> Result<Option<Refusal>, Memory>
-    requires apart { StandApart (held_by judge.now).claim (held_by judge.now).ops }
+    requires apart { StandApart (claimed_of (held_by judge.now)) }
     requires target { IsTargetOf (held_by judge.now).ops edit.now target.now }
-    ensures refusal { IfOk result (λ refusal. refusal ≡ reply_to (held_by judge.now).claim (held_by judge.now).ops edit.now) }
-    ensures memory { OnErr result (reply_to (held_by judge.now).claim (held_by judge.now).ops edit.now ≡ None) }
+    ensures refusal { IfOk result (λ refusal. refusal ≡ reply_to (claimed_of (held_by judge.now)) edit.now) }
+    ensures memory { OnErr result (reply_to (claimed_of (held_by judge.now)) edit.now ≡ None) }
     ensures turn { OnErr result (IsTurn (held_by judge.now).claim.kind edit.now) }
 {
     let refusal = list_refusal(judge.operations(), edit, target);
@@ -69,7 +70,7 @@ fn claim_refusal_of<'t>(
     judge: &Judge<'t>,
     edit: &Edit<'t>,
 ) -> Result<Option<Refusal>, Memory>
-    requires { StandApart (held_by judge.now).claim (held_by judge.now).ops }
+    requires { StandApart (claimed_of (held_by judge.now)) }
     ensures refusal { IfOk result (λ refusal. refusal ≡ claim_refusal (held_by judge.now).claim (held_by judge.now).ops edit.now) }
     ensures memory { OnErr result (claim_refusal (held_by judge.now).claim (held_by judge.now).ops edit.now ≡ None) }
     ensures turn { OnErr result (IsTurn (held_by judge.now).claim.kind edit.now) }
@@ -89,7 +90,7 @@ fn claim_refusal_of<'t>(
 /// The first of X11, X14 and X12 that a claim to be safe or regular meets. A register that is so already has no
 /// writes that overlap, so X12 is not asked.
 fn refusal_of_one_writer(alloc: Global, judge: &Judge) -> Option<Refusal>
-    requires { StandApart (held_by judge.now).claim (held_by judge.now).ops }
+    requires { StandApart (claimed_of (held_by judge.now)) }
     ensures { result ≡ one_writer_refusal (held_by judge.now).claim (held_by judge.now).ops }
 {
     first_overlap_began_first();
@@ -108,7 +109,7 @@ fn refusal_of_one_writer(alloc: Global, judge: &Judge) -> Option<Refusal>
 
 /// X13, where a claim to be atomic meets it. A register that is atomic already has no value that is repeated.
 fn refusal_of_atomic(alloc: Global, judge: &Judge) -> Result<Option<Refusal>, Memory>
-    requires { StandApart (held_by judge.now).claim (held_by judge.now).ops }
+    requires { StandApart (claimed_of (held_by judge.now)) }
     ensures refusal { IfOk result (λ refusal. refusal ≡ option_map repeat_claimed (first_repeat (held_by judge.now).claim [] (held_by judge.now).ops)) }
     ensures memory { OnErr result (first_repeat (held_by judge.now).claim [] (held_by judge.now).ops ≡ None) }
     ensures turn { OnErr result ((held_by judge.now).claim.kind ≢ Kind.Atomic) }

@@ -90,19 +90,19 @@ not_is : (b : Bool) → not b ≡ true → b ≡ false
 not_is true is = sym is
 not_is false is = refl
 
-fails_from : (book : Option RegisterState) (finding : Finding) → IsFindingOf book finding → is_some finding.witness ≡ true → IsSomeAnd book (λ held. ¬ Holds held.claim held.ops)
+fails_from : (book : Option RegisterState) (finding : Finding) → IsFindingOf book finding → is_some finding.witness ≡ true → IsSomeAnd book (λ held. ¬ Holds held)
 fails_from None finding is some = is
 fails_from (Some held) finding is some = λ holds. true≢false (sym some ∙ is.none.1 holds)
 
-fails_to : (book : Option RegisterState) (finding : Finding) → IsFindingOf book finding → IsSomeAnd book (λ held. ¬ Holds held.claim held.ops) → is_some finding.witness ≡ true
+fails_to : (book : Option RegisterState) (finding : Finding) → IsFindingOf book finding → IsSomeAnd book (λ held. ¬ Holds held) → is_some finding.witness ≡ true
 fails_to None finding is fails = absurd is
 fails_to (Some held) finding is fails = not_false (is_some finding.witness) (λ none. fails (is.none.0 none))
 
-holds_from : (book : Option RegisterState) (finding : Finding) → IsFindingOf book finding → is_none finding.witness ≡ true → IsSomeAnd book (λ held. Holds held.claim held.ops)
+holds_from : (book : Option RegisterState) (finding : Finding) → IsFindingOf book finding → is_none finding.witness ≡ true → IsSomeAnd book Holds
 holds_from None finding is none = is
 holds_from (Some held) finding is none = is.none.0 (not_is (is_some finding.witness) none)
 
-holds_to : (book : Option RegisterState) (finding : Finding) → IsFindingOf book finding → IsSomeAnd book (λ held. Holds held.claim held.ops) → is_none finding.witness ≡ true
+holds_to : (book : Option RegisterState) (finding : Finding) → IsFindingOf book finding → IsSomeAnd book Holds → is_none finding.witness ≡ true
 holds_to None finding is holds = absurd is
 holds_to (Some held) finding is holds = ap not (is.none.1 holds)
 
@@ -149,7 +149,7 @@ by_fails tower closed findings number of_tower many found fails =
     λ found_there. elim found_there as (λ (o : Option Finding). slice_get findings number ≡ o → option_map_or (λ (finding : Finding). is_some finding.witness) o false ≡ true) [
       | None ↦ λ at.
           let past : length findings ≤ number = nothing_past findings number at in
-          absurd (subst (λ (book : Option RegisterState). IsSomeAnd book (λ held. ¬ Holds held.claim held.ops)) (past_all tower closed number of_tower (omega arith)) fails)
+          absurd (subst (λ (book : Option RegisterState). IsSomeAnd book (λ held. ¬ Holds held)) (past_all tower closed number of_tower (omega arith)) fails)
       | Some finding ↦ λ at. fails_to (book_of closed number) finding (finding_at closed 0 findings number number finding (omega arith) found at) fails
     ] in
     fails_found findings number ∙ by (slice_get findings number) refl
@@ -160,7 +160,7 @@ by_holds tower closed findings number of_tower many found keeps =
     λ found_there. elim found_there as (λ (o : Option Finding). slice_get findings number ≡ o → option_map_or (λ (finding : Finding). is_none finding.witness) o false ≡ true) [
       | None ↦ λ at.
           let past : length findings ≤ number = nothing_past findings number at in
-          absurd (subst (λ (book : Option RegisterState). IsSomeAnd book (λ held. Holds held.claim held.ops)) (past_all tower closed number of_tower (omega arith)) keeps)
+          absurd (subst (λ (book : Option RegisterState). IsSomeAnd book Holds) (past_all tower closed number of_tower (omega arith)) keeps)
       | Some finding ↦ λ at. holds_to (book_of closed number) finding (finding_at closed 0 findings number number finding (omega arith) found at) keeps
     ] in
     holds_found findings number ∙ by (slice_get findings number) refl

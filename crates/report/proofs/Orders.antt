@@ -10,7 +10,7 @@ use Rattle.zones.specs.AtFirst.{with_start}
 use Rattle.zones.specs.Turn.{IsOrder}
 use Rattle.report.specs.Order.{IsOrderOf}
 
-pub order_is : {E : Type 0} (book : RegisterState) (result : Result (Option (Vec OpId Global)) E) → IfOk result (λ found. IfSome found (λ ids. IsOrder (with_start book.claim book.ops) book.ops ids.items)) → IfOk result (λ found. IsNone found ↔ ¬ ((book.claim.kind ≡ Atomic) × Holds book.claim book.ops)) → IfOk result (λ found. IsOrderOf (Some book) (option_map (λ (ids : Vec OpId Global). ids.items) found))
+pub order_is : {E : Type 0} (book : RegisterState) (result : Result (Option (Vec OpId Global)) E) → IfOk result (λ found. IfSome found (λ ids. IsOrder (with_start book) book.ops ids.items)) → IfOk result (λ found. IsNone found ↔ ¬ ((book.claim.kind ≡ Atomic) × Holds book)) → IfOk result (λ found. IsOrderOf (Some book) (option_map (λ (ids : Vec OpId Global). ids.items) found))
 order_is book (Err fault) order none = tt
 order_is book (Ok None) order none = (tt, none)
 order_is book (Ok (Some ids)) order none = (order, none)

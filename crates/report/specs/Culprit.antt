@@ -10,11 +10,11 @@ use Rattle.report.specs.Finding.{fails_of, fails_in, holds_in}
 
 -- the register of this number holds, by the operations that stand when its auditor is closed
 abbrev pub RegisterHolds : List ClosedShard → ℕ → Type 0
-RegisterHolds closed number = IsSomeAnd (book_of closed number) (λ held. Holds held.claim held.ops)
+RegisterHolds closed number = IsSomeAnd (book_of closed number) Holds
 
 -- the register of this number fails, by the operations that stand when its auditor is closed
 abbrev pub Fails : List ClosedShard → ℕ → Type 0
-Fails closed number = IsSomeAnd (book_of closed number) (λ held. ¬ Holds held.claim held.ops)
+Fails closed number = IsSomeAnd (book_of closed number) (λ held. ¬ Holds held)
 
 -- a culprit: a register that fails while all its parts hold
 pub record IsCulprit (tower : TowerModel) (closed : List ClosedShard) (number : ℕ) : Type 0 where

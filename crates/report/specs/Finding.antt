@@ -19,7 +19,7 @@ pub record IsFinding (held : RegisterState) (finding : Finding) : Type 0 where
   pub kind : finding.kind ≡ held.claim.kind
   pub operations : finding.operations ≡ length held.ops
   pub witness : IfSome finding.witness (IsWitness held.claim held.ops)
-  pub none : IsNone finding.witness ↔ Holds held.claim held.ops
+  pub none : IsNone finding.witness ↔ Holds held
 
 -- what is found of a register, by its book, which has to be there
 abbrev pub IsFindingOf : Option RegisterState → Finding → Type 0

@@ -15,8 +15,8 @@ use Rattle.phrases.specs.Names.{printed, id_text, register_name}
 abbrev pub IsOrderOf : Option RegisterState → Option (List OpId) → Type 0
 IsOrderOf None found = ⊥
 IsOrderOf (Some held) found =
-    IfSome found (IsOrder (with_start held.claim held.ops) held.ops)
-    × (IsNone found ↔ ¬ ((held.claim.kind ≡ Atomic) × Holds held.claim held.ops))
+    IfSome found (IsOrder (with_start held) held.ops)
+    × (IsNone found ↔ ¬ ((held.claim.kind ≡ Atomic) × Holds held))
 
 -- the register whose order is asked for, if any, with that order
 abbrev pub IsAsked : List ClosedShard → Option RegId → Option (RegId × Option (List OpId)) → Type 0

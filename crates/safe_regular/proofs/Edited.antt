@@ -9,7 +9,7 @@ use Rattle.intervals.specs.declared.operation.Value.{Value}
 use Rattle.intervals.specs.declared.operation.Op.{Op}
 use Rattle.intervals.specs.declared.operation.OpId.{OpId}
 use Rattle.intervals.specs.declared.edit.Edit.{Edit}
-use Rattle.intervals.specs.Terms.{ClaimModel}
+use Rattle.intervals.specs.Terms.{ClaimModel, state_of}
 use Rattle.intervals.specs.Operation.{IsWrite, same_id, value_of}
 use Rattle.intervals.specs.Edit.{op_of, edited}
 use Rattle.intervals.specs.Judging.{is_allowed}
@@ -45,5 +45,5 @@ pub write_allowed : (claim : ClaimModel) (ops : List Op) → AreOneWriters claim
 write_allowed claim ops apart w present write =
     in_domain claim.domain claim.initial (value_of w.act) (All-contains (λ v. IsWrite v → IsPermitted claim v) ops w apart.kept.allowed present write).value
 
-pub apart_kept : (claim : ClaimModel) (ops : List Op) (edit : Edit) → AreOneWriters claim ops → reply_to claim ops edit ≡ None → AreOneWriters claim (edited ops edit)
-apart_kept claim ops edit apart accepted = record { one_writer = apart.one_writer; kept = edited_apart claim ops edit apart.kept accepted }
+pub apart_kept : (claim : ClaimModel) (ops : List Op) (edit : Edit) → AreOneWriters claim ops → reply_to (state_of claim ops) edit ≡ None → AreOneWriters claim (edited ops edit)
+apart_kept claim ops edit apart accepted = record { one_writer = apart.one_writer; kept = edited_apart (state_of claim ops) edit apart.kept accepted }

@@ -12,7 +12,7 @@ use Rattle.intervals.specs.Judging.{is_wrong_read, end_number, first_wrong}
 use Rattle.intervals.specs.Kind.{IsSafe, IsRegular, Keeps, Holds}
 use Rattle.intervals.specs.Operation.{IsJudgedRead, is_judged_read, same_id}
 use Rattle.intervals.specs.Standing.{HasDistinctIds}
-use Rattle.intervals.specs.Terms.{ClaimModel}
+use Rattle.intervals.specs.Terms.{ClaimModel, state_of}
 use Rattle.intervals.proofs.Ids.{found_by_id}
 use Rattle.intervals.specs.declared.ordered_index.Spot.{Spot}
 use Rattle.read_tree.specs.declared.item.RowItem.{RowItem}
@@ -113,7 +113,7 @@ module _ (claim : ClaimModel) (ops : List Op) (one_writer : claim.kind ≢ Atomi
   by_kind Atomic e one safe regular = absurd (one refl)
 
   pub holds_where_none : (claim.kind ≡ Safe → (first_wrong claim ops ≡ None) ↔ IsSafe claim ops) → (claim.kind ≡ Regular → (first_wrong claim ops ≡ None) ↔ IsRegular claim ops)
-      → (none : Bool) → IsTrue none ↔ (first_wrong claim ops ≡ None) → IsTrue none ↔ Holds claim ops
+      → (none : Bool) → IsTrue none ↔ (first_wrong claim ops ≡ None) → IsTrue none ↔ Holds (state_of claim ops)
   holds_where_none safe regular none is =
       let kind = by_kind claim.kind refl one_writer safe regular in (λ t. kind.0 (is.0 t), λ holds. is.1 (kind.1 holds))
 

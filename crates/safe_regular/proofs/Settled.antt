@@ -10,7 +10,7 @@ use Rattle.intervals.specs.Edit.{amended, edited, new_op, edit_id, found_by, has
 use Rattle.intervals.specs.Operation.{same_id}
 use Rattle.intervals.specs.Refusal.{reply_to}
 use Rattle.intervals.specs.Table.{prepared_after}
-use Rattle.intervals.specs.Terms.{ClaimModel}
+use Rattle.intervals.specs.Terms.{ClaimModel, state_of}
 use Rattle.intervals.proofs.Accepted.{edit_accepted}
 use Rattle.read_tree.specs.declared.item.RowItem.{RowItem}
 use Rattle.read_tree.specs.Items.{AreItemsInOrder, ReadContents}
@@ -60,7 +60,7 @@ count_edited ops (Amend id change) = rw (length-map ops (amended id change)) (mo
 count_edited ops (Withdraw id) = let le = filter_shorter (λ op. not (same_id op.id id)) ops in omega (arith, le)
 count_edited ops (Claim kind) = omega arith
 
-module _ (claim : ClaimModel) (ops : List Op) (edit : Edit) (apart : AreOneWriters claim ops) (accepted : reply_to claim ops edit ≡ None)
+module _ (claim : ClaimModel) (ops : List Op) (edit : Edit) (apart : AreOneWriters claim ops) (accepted : reply_to (state_of claim ops) edit ≡ None)
     (old new : Option Op) (old_is : old ≡ found_by ops (edit_id edit)) (new_is : new ≡ new_op ops edit) (listed : List Op) (listed_is : listed ≡ edited ops edit) where
   later : AreOneWriters claim (edited ops edit)
   later = apart_kept claim ops edit apart accepted
@@ -73,7 +73,7 @@ module _ (claim : ClaimModel) (ops : List Op) (edit : Edit) (apart : AreOneWrite
       → ((before others after : List Op) → AreWrites before writes → IsAddedOf others old before → IsAddedOf others new after → AreWrites after writes') → CanJudge listed writes'
   can_judge writes writes' are change =
       let among : IsAddedOf (others_of ops (edit_id edit)) old ops = rw old_is (goes ops (edit_id edit) apart.kept.ids (writes_apart claim ops apart)) in
-      let now : IsAddedOf (others_of ops (edit_id edit)) new (edited ops edit) = rw new_is (comes ops edit apart.kept.ids (edit_accepted claim ops edit accepted) (writes_apart claim (edited ops edit) later)) in
+      let now : IsAddedOf (others_of ops (edit_id edit)) new (edited ops edit) = rw new_is (comes ops edit apart.kept.ids (edit_accepted (state_of claim ops) edit accepted) (writes_apart claim (edited ops edit) later)) in
       let both : CanJudge (edited ops edit) writes' = record { shelved = change ops (others_of ops (edit_id edit)) (edited ops edit) are among now; ids = later.kept.ids } in
       subst (λ (l : List Op). CanJudge l writes') (sym listed_is) both
 
@@ -95,7 +95,7 @@ module _ (claim : ClaimModel) (ops : List Op) (edit : Edit) (apart : AreOneWrite
   in_before x (inr e) = (found_present ops (edit_id edit) x (sym old_is ∙ e)).0
 
   is_among : (x : Op) → Contains listed x → IsAmong others new x
-  is_among x h = subst (λ (o : Option Op). IsAmong others o x) (sym new_is) (after_cases ops edit apart.kept.ids (edit_accepted claim ops edit accepted) x (subst (λ (l : List Op). Contains l x) listed_is h))
+  is_among x h = subst (λ (o : Option Op). IsAmong others o x) (sym new_is) (after_cases ops edit apart.kept.ids (edit_accepted (state_of claim ops) edit accepted) x (subst (λ (l : List Op). Contains l x) listed_is h))
 
   pub in_listed : (x : Op) → IsAmong others new x → Contains listed x
   in_listed x (inl h) = subst (λ (l : List Op). Contains l x) (sym listed_is) (other_after ops edit x h)

@@ -5,7 +5,7 @@ use Rattle.intervals.specs.declared.claim.Kind.TheVariants.{Atomic}
 use Rattle.intervals.specs.Judging.{end_number}
 use Rattle.intervals.specs.Standing.{HasDistinctIds, StandApart}
 use Rattle.intervals.specs.Table.{TableModel}
-use Rattle.intervals.specs.Terms.{ClaimModel}
+use Rattle.intervals.specs.Terms.{ClaimModel, state_of}
 use Rattle.read_tree.specs.Items.{ReadContents}
 use Rattle.safe_regular.specs.declared.judged.JudgedReads.{JudgedReads}
 use Rattle.safe_regular.specs.declared.reads.Reads.{Reads}
@@ -28,7 +28,7 @@ pub record IsWithinMoments (op : Op) : Type 0 where
 -- the claim is not atomic, and the operations have what the reply rule keeps under it (`StandApart`)
 pub record AreOneWriters (claim : ClaimModel) (ops : List Op) : Type 0 where
   pub one_writer : claim.kind ≢ Atomic
-  pub kept : StandApart claim ops
+  pub kept : StandApart (state_of claim ops)
 
 -- the stored reads are those of the operations: the tree holds their items; or rows hold the verdicts, and the tree is
 -- empty and has at least n + 1 free places, n the number of operations

@@ -5,7 +5,7 @@ ghost use Rattle.intervals.specs.Edit.{edited, op_of};
 ghost use Rattle.intervals.specs.Operation.{IsWrite, IsJudgedRead, is_write};
 ghost use Rattle.intervals.specs.Table.{prepared_after};
 ghost use Rattle.intervals.specs.Target.{IsTargetOf};
-ghost use Rattle.intervals.specs.Terms.{terms_of};
+ghost use Rattle.intervals.specs.Terms.{terms_of, state_of};
 ghost use Rattle.intervals.specs.Kind.{IsSafe, IsRegular, Holds};
 ghost use Rattle.intervals.specs.Refusal.{write_refusal, reply_to, ok_unless};
 ghost use Rattle.intervals.specs.Judging.{first_wrong};
@@ -109,7 +109,7 @@ impl<'t> SingleWriterJudge<'t> {
     /// Carries out an edit that nothing refuses. It takes no memory where the new operation is prepared or where
     /// there is none.
     pub fn admit(&mut self, edit: &Edit<'t>, target: &Target<'t>) -> Result<(), Memory>
-        requires accepted { reply_to self.old.claim self.old.ops edit.now ≡ None }
+        requires accepted { reply_to (state_of self.old.claim self.old.ops) edit.now ≡ None }
         requires target { IsTargetOf self.old.ops edit.now target.now }
         requires prepared { IfSome self.old.prepared (λ op. IfSome target.now.new (λ new. new ≡ op)) }
         ensures ok { OnOk result (self.new ≡ record self.old { ops = edited self.old.ops edit.now; prepared = prepared_after target.now.new self.old.prepared }) }
@@ -127,7 +127,7 @@ impl<'t> SingleWriterJudge<'t> {
 
     /// Carries out an edit whose new operation, if it has one, is prepared.
     fn settle(&mut self, edit: &Edit<'t>, target: &Target<'t>)
-        requires accepted { reply_to self.old.claim self.old.ops edit.now ≡ None }
+        requires accepted { reply_to (state_of self.old.claim self.old.ops) edit.now ≡ None }
         requires target { IsTargetOf self.old.ops edit.now target.now }
         requires prepared { IfSome target.now.new (λ op. self.old.prepared ≡ Some op) }
         ensures { self.new ≡ record self.old { ops = edited self.old.ops edit.now; prepared = prepared_after target.now.new self.old.prepared } }
@@ -143,7 +143,7 @@ impl<'t> SingleWriterJudge<'t> {
     /// Appends a write that nothing refuses.
     pub fn admit_write(&mut self, write: &Op<'t>) -> Result<(), Memory>
         requires write { IsWrite write.now }
-        requires accepted { reply_to self.old.claim self.old.ops (Edit.Append write.now) ≡ None }
+        requires accepted { reply_to (state_of self.old.claim self.old.ops) (Edit.Append write.now) ≡ None }
         requires prepared { IfSome self.old.prepared (λ op. write.now ≡ op) }
         ensures succeeds { IsSome self.old.prepared → IsOk result }
         ensures ok { OnOk result (self.new ≡ record self.old { ops = self.old.ops ++ write.now ∷ []; prepared = None }) }
@@ -157,7 +157,7 @@ impl<'t> SingleWriterJudge<'t> {
     /// Appends a read that has an end and that nothing refuses.
     pub fn admit_read(&mut self, read: &Op<'t>) -> Result<(), Memory>
         requires read { IsJudgedRead read.now }
-        requires accepted { reply_to self.old.claim self.old.ops (Edit.Append read.now) ≡ None }
+        requires accepted { reply_to (state_of self.old.claim self.old.ops) (Edit.Append read.now) ≡ None }
         requires prepared { IfSome self.old.prepared (λ op. read.now ≡ op) }
         ensures succeeds { IsSome self.old.prepared → IsOk result }
         ensures ok { OnOk result (self.new ≡ record self.old { ops = self.old.ops ++ read.now ∷ []; prepared = None }) }
@@ -216,7 +216,7 @@ impl<'t> SingleWriterJudge<'t> {
 
     /// Whether no read is wrong.
     pub fn holds(&self) -> bool
-        ensures { IsTrue result ↔ Holds self.now.claim self.now.ops }
+        ensures { IsTrue result ↔ Holds (state_of self.now.claim self.now.ops) }
     {
         safe_without_wrong_reads();
         regular_without_wrong_reads();

@@ -49,10 +49,10 @@ changed_by plan before entry claim edited held change known left was is = record
   claim = claim;
   known = known;
   kind = is.kind ∙ ap (λ (s : RegisterState). s.claim.kind) left;
-  verdict = subst (λ (s : RegisterState). IsTrue change.holds ↔ Holds s.claim s.ops) left is.verdict;
+  verdict = subst (λ (s : RegisterState). IsTrue change.holds ↔ Holds s) left is.verdict;
   operations = is.operations ∙ ap (λ (s : RegisterState). length s.ops) left;
   fault = subst (λ (s : RegisterState). IfSome change.fault (λ fault. (witness : Witness) × IsWitness s.claim s.ops witness × (ids_of witness ≡ fault))) left is.fault;
-  none = subst (λ (s : RegisterState). IsNone change.fault ↔ Holds s.claim s.ops) left is.none;
+  none = subst (λ (s : RegisterState). IsNone change.fault ↔ Holds s) left is.none;
 }
 
 any_change : (plan : Plan) (journal : List Entry) (entry : Entry) (claim : ClaimModel) (edited : BookModel) (held : Bool) (change : Option VerdictChange)
@@ -60,7 +60,7 @@ any_change : (plan : Plan) (journal : List Entry) (entry : Entry) (claim : Claim
     → claimed_of edited ≡ left_by (journal ++ entry ∷ []) entry.register.0 claim
     → IsTrue held ↔ HoldsAfter plan entry.register.0 journal
     → IfSome change (IsVerdictChangeTo edited entry.register (length journal) held)
-    → (IsNone change → IsTrue held ↔ Holds edited.claim edited.ops)
+    → (IsNone change → IsTrue held ↔ Holds (claimed_of edited))
     → IsChangeIfAny plan journal entry change
 any_change plan journal entry claim edited held None known left was some none =
     through was (holds_by plan (journal ++ entry ∷ []) entry.register.0 claim (claimed_of edited) held known left (none refl))
@@ -70,9 +70,9 @@ any_change plan journal entry claim edited held (Some change) known left was som
 pub change_of : (plan : Plan) (shard : Shard) (entry : Entry) (book edited : BookModel) (held : Bool) (change : Option VerdictChange)
     → IsShardOf plan shard → entry.register.0 % plan.shards ≡ shard.at → entry.register.0 < length plan.claims
     → book ≡ get_or shard.books.items (entry.register.0 / shard.shards) book → IsReply (claimed_of book) entry.edit entry.reply → claimed_of edited ≡ after_edit (claimed_of book) entry.edit
-    → IsTrue held ↔ Holds book.claim book.ops
+    → IsTrue held ↔ Holds (claimed_of book)
     → IfSome change (IsVerdictChangeTo edited entry.register (length shard.journal.items) held)
-    → (IsNone change → IsTrue held ↔ Holds edited.claim edited.ops)
+    → (IsNone change → IsTrue held ↔ Holds (claimed_of edited))
     → IsChangeIfAny plan shard.journal.items entry change
 change_of plan shard entry book edited held change kept here known is reply edited_to was some none =
     let has : HasBook plan shard entry.register.0 = has_book plan shard entry.register.0 kept here known in

@@ -161,7 +161,7 @@ kept_push plan old new entry book edited count kept here known feeder is reply c
 -- the answer from a book is that of the register as the journal leaves it
 pub answer_by : (plan : Plan) (shard : Shard) (register : ℕ) (book : BookModel) (answer : Answer) → IsShardOf plan shard → register % plan.shards ≡ shard.at → register < length plan.claims
     → book ≡ get_or shard.books.items (register / shard.shards) book
-    → IsTrue answer.holds ↔ Holds book.claim book.ops → answer.operations ≡ length book.ops → IfSome answer.witness (IsWitness book.claim book.ops) → IsNone answer.witness ↔ Holds book.claim book.ops
+    → IsTrue answer.holds ↔ Holds (claimed_of book) → answer.operations ≡ length book.ops → IfSome answer.witness (IsWitness book.claim book.ops) → IsNone answer.witness ↔ Holds (claimed_of book)
     → answer.fault ≡ option_map ids_of answer.witness → answer.number ≡ length shard.journal.items
     → IsStanding plan register shard.journal.items answer
 answer_by plan shard register book answer kept here known is verdict operations witness none fault number =
@@ -170,18 +170,18 @@ answer_by plan shard register book answer kept here known is verdict operations 
     record {
       claim = has.claim;
       known = has.known;
-      verdict = subst (λ (b : RegisterState). IsTrue answer.holds ↔ Holds b.claim b.ops) held verdict;
+      verdict = subst (λ (b : RegisterState). IsTrue answer.holds ↔ Holds b) held verdict;
       operations = operations ∙ ap (λ (b : RegisterState). length b.ops) held;
       witness = subst (λ (b : RegisterState). IfSome answer.witness (IsWitness b.claim b.ops)) held witness;
-      none = subst (λ (b : RegisterState). IsNone answer.witness ↔ Holds b.claim b.ops) held none;
+      none = subst (λ (b : RegisterState). IsNone answer.witness ↔ Holds b) held none;
       fault = fault;
       number = number;
     }
 
 -- a verdict on what a journal leaves of a register
 pub holds_by : (plan : Plan) (journal : List Entry) (register : ℕ) (claim : ClaimModel) (left : RegisterState) (verdict : Bool) → slice_get plan.claims register ≡ Some claim → left ≡ left_by journal register claim
-    → IsTrue verdict ↔ Holds left.claim left.ops
+    → IsTrue verdict ↔ Holds left
     → IsTrue verdict ↔ HoldsAfter plan register journal
 holds_by plan journal register claim left verdict known is holds =
-    subst (λ (found : Option ClaimModel). IsTrue verdict ↔ IsSomeAnd found (λ terms. Holds (left_by journal register terms).claim (left_by journal register terms).ops)) (sym known)
-    (subst (λ (state : RegisterState). IsTrue verdict ↔ Holds state.claim state.ops) is holds)
+    subst (λ (found : Option ClaimModel). IsTrue verdict ↔ IsSomeAnd found (λ terms. Holds (left_by journal register terms))) (sym known)
+    (subst (λ (state : RegisterState). IsTrue verdict ↔ Holds state) is holds)

@@ -74,7 +74,7 @@ same_truth P false true is is' = is.1 (is'.0 refl)
 same_truth P false false is is' = refl
 
 one_reply : (held : RegisterState) (edit : Edit) (reply other : Reply) → IsReply held edit reply → IsReply held edit other → reply ≡ other
-one_reply held edit (Accepted holds) (Accepted holds') is is' = ap Accepted (same_truth (Holds (after_edit held edit).claim (after_edit held edit).ops) holds holds' is.1 is'.1)
+one_reply held edit (Accepted holds) (Accepted holds') is is' = ap Accepted (same_truth (Holds (after_edit held edit)) holds holds' is.1 is'.1)
 one_reply held edit (Accepted holds) (Refused refusal') is is' = absurd (none-some refusal' (sym is.0 ∙ is'))
 one_reply held edit (Refused refusal) (Accepted holds') is is' = absurd (none-some refusal (sym is'.0 ∙ is))
 one_reply held edit (Refused refusal) (Refused refusal') is is' = ap Refused (same_Some refusal refusal' (sym is ∙ is'))

@@ -59,7 +59,7 @@ left_by journal register claim = record { claim = claim_by claim (accepted_edits
 
 -- a register of the plan holds after a journal: as the journal leaves it, it keeps its claim
 abbrev pub HoldsAfter : Plan → ℕ → List Entry → Type 0
-HoldsAfter plan register journal = IsSomeAnd (slice_get plan.claims register) (λ claim. Holds (left_by journal register claim).claim (left_by journal register claim).ops)
+HoldsAfter plan register journal = IsSomeAnd (slice_get plan.claims register) (λ claim. Holds (left_by journal register claim))
 
 -- the register of an entry is in this shard and in the plan, and the reply is that of the register as the entries
 -- before leave it

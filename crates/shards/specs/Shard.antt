@@ -54,10 +54,10 @@ pub record IsVerdictChangeTo (book : BookModel) (register : RegId) (number : ℕ
   pub register_is : change.register ≡ register
   pub differs : change.holds ≢ held
   pub kind : change.kind ≡ book.claim.kind
-  pub verdict : IsTrue change.holds ↔ Holds book.claim book.ops
+  pub verdict : IsTrue change.holds ↔ Holds (claimed_of book)
   pub operations : change.operations ≡ length book.ops
   pub fault : IfSome change.fault (λ fault. (witness : Witness) × IsWitness book.claim book.ops witness × (ids_of witness ≡ fault))
-  pub none : IsNone change.fault ↔ Holds book.claim book.ops
+  pub none : IsNone change.fault ↔ Holds (claimed_of book)
 
 -- the numbers of the entries rise
 abbrev pub Rises : List NumberedEntry → Type 0

@@ -40,10 +40,10 @@ last_entry journal = option_map (numbered_entry (length journal - 1)) (last_in j
 pub record IsStanding (plan : Plan) (register : ℕ) (journal : List Entry) (answer : Answer) : Type 0 where
   pub claim : ClaimModel
   pub known : slice_get plan.claims register ≡ Some claim
-  pub verdict : IsTrue answer.holds ↔ Holds (left_by journal register claim).claim (left_by journal register claim).ops
+  pub verdict : IsTrue answer.holds ↔ Holds (left_by journal register claim)
   pub operations : answer.operations ≡ length (left_by journal register claim).ops
   pub witness : IfSome answer.witness (IsWitness (left_by journal register claim).claim (left_by journal register claim).ops)
-  pub none : IsNone answer.witness ↔ Holds (left_by journal register claim).claim (left_by journal register claim).ops
+  pub none : IsNone answer.witness ↔ Holds (left_by journal register claim)
   pub fault : answer.fault ≡ option_map ids_of answer.witness
   pub number : answer.number ≡ length journal
 

@@ -23,11 +23,11 @@ pub record IsVerdictChangeBy (plan : Plan) (before : List Entry) (entry : Entry)
   pub claim : ClaimModel
   pub known : slice_get plan.claims entry.register.0 ≡ Some claim
   pub kind : change.kind ≡ (left_by (before ++ entry ∷ []) entry.register.0 claim).claim.kind
-  pub verdict : IsTrue change.holds ↔ Holds (left_by (before ++ entry ∷ []) entry.register.0 claim).claim (left_by (before ++ entry ∷ []) entry.register.0 claim).ops
+  pub verdict : IsTrue change.holds ↔ Holds (left_by (before ++ entry ∷ []) entry.register.0 claim)
   pub operations : change.operations ≡ length (left_by (before ++ entry ∷ []) entry.register.0 claim).ops
   pub fault : IfSome change.fault (λ fault. (witness : Witness)
       × IsWitness (left_by (before ++ entry ∷ []) entry.register.0 claim).claim (left_by (before ++ entry ∷ []) entry.register.0 claim).ops witness × (ids_of witness ≡ fault))
-  pub none : IsNone change.fault ↔ Holds (left_by (before ++ entry ∷ []) entry.register.0 claim).claim (left_by (before ++ entry ∷ []) entry.register.0 claim).ops
+  pub none : IsNone change.fault ↔ Holds (left_by (before ++ entry ∷ []) entry.register.0 claim)
 
 -- the optional change is the one by an entry after these; none where the entry leaves the verdict on its register as it
 -- was

@@ -131,7 +131,7 @@ impl<'t> Shard<'t> {
 /// it was.
 fn change_to(book: &RegisterBook, register: RegId, number: u64, held: bool) -> Option<VerdictChange>
     ensures change { IfSome result (IsVerdictChangeTo book.now register number held) }
-    ensures none { IsNone result → IsTrue held ↔ Holds book.now.claim book.now.ops }
+    ensures none { IsNone result → IsTrue held ↔ Holds (claimed_of book.now) }
 {
     let holds = book.holds();
     if holds == held {

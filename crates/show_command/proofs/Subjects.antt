@@ -11,7 +11,7 @@ use Rattle.intervals.specs.Kind.{Holds}
 use Rattle.intervals.specs.Terms.{terms_of}
 use Rattle.zones.specs.AtFirst.{with_start}
 use Rattle.zones.specs.Turn.{IsOrder}
-use Rattle.register_book.specs.BookModel.{BookModel}
+use Rattle.register_book.specs.BookModel.{BookModel, claimed_of}
 use Rattle.tower_file.specs.Contents.{Register}
 use Rattle.show_command.specs.Drawn.{IsInitialOf, IsDrawnOrder}
 
@@ -31,15 +31,15 @@ pub nothing_is_said : (slot : Option Register) (initial : Initial) → None ≡ 
 nothing_is_said None initial found = tt
 nothing_is_said (Some register) initial found = search rules
 
-an_order_of : (book : BookModel) (ids : Vec OpId Global) → IsOrder (with_start book.claim book.ops) book.ops ids.items → IsNone (Some ids) ↔ ¬ ((book.claim.kind ≡ Atomic) × Holds book.claim book.ops) → IsDrawnOrder book ids.items
+an_order_of : (book : BookModel) (ids : Vec OpId Global) → IsOrder (with_start (claimed_of book)) book.ops ids.items → IsNone (Some ids) ↔ ¬ ((book.claim.kind ≡ Atomic) × Holds (claimed_of book)) → IsDrawnOrder book ids.items
 an_order_of book ids order none = record { explains = λ holds. order; none = λ fails. absurd (let h = none.1 fails in cc) }
 
 pub an_order : (book : BookModel) (found : Option (Vec OpId Global)) (ids : Vec OpId Global) → found ≡ Some ids
-    → IfSome found (λ ids. IsOrder (with_start book.claim book.ops) book.ops ids.items) → IsNone found ↔ ¬ ((book.claim.kind ≡ Atomic) × Holds book.claim book.ops) → IsDrawnOrder book ids.items
+    → IfSome found (λ ids. IsOrder (with_start (claimed_of book)) book.ops ids.items) → IsNone found ↔ ¬ ((book.claim.kind ≡ Atomic) × Holds (claimed_of book)) → IsDrawnOrder book ids.items
 an_order book found ids is order none = an_order_of book ids
-    (subst (λ (found : Option (Vec OpId Global)). IfSome found (λ ids. IsOrder (with_start book.claim book.ops) book.ops ids.items)) is order)
-    (subst (λ (found : Option (Vec OpId Global)). IsNone found ↔ ¬ ((book.claim.kind ≡ Atomic) × Holds book.claim book.ops)) is none)
+    (subst (λ (found : Option (Vec OpId Global)). IfSome found (λ ids. IsOrder (with_start (claimed_of book)) book.ops ids.items)) is order)
+    (subst (λ (found : Option (Vec OpId Global)). IsNone found ↔ ¬ ((book.claim.kind ≡ Atomic) × Holds (claimed_of book))) is none)
 
-pub no_order : (book : BookModel) (found : Option (Vec OpId Global)) → found ≡ None → IsNone found ↔ ¬ ((book.claim.kind ≡ Atomic) × Holds book.claim book.ops) → IsDrawnOrder book []
+pub no_order : (book : BookModel) (found : Option (Vec OpId Global)) → found ≡ None → IsNone found ↔ ¬ ((book.claim.kind ≡ Atomic) × Holds (claimed_of book)) → IsDrawnOrder book []
 no_order book None is none = record { explains = λ holds. absurd (none.0 refl holds); none = λ fails. refl }
 no_order book (Some ids) is none = search rules

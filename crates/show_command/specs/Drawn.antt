@@ -10,7 +10,7 @@ use Rattle.intervals.specs.Table.{ops_in_slots}
 use Rattle.intervals.specs.Terms.{ClaimModel, is_known, value_at_first}
 use Rattle.zones.specs.AtFirst.{with_start}
 use Rattle.zones.specs.Turn.{IsOrder}
-use Rattle.register_book.specs.BookModel.{BookModel}
+use Rattle.register_book.specs.BookModel.{BookModel, claimed_of}
 use Rattle.register_book.specs.Fault.{IsWitness}
 use Rattle.tower_file.specs.Contents.{TowerModel}
 use Rattle.phrases.specs.Names.{register_name}
@@ -31,8 +31,8 @@ IsInitialOf claim initial = (value_at_first initial ≡ claim.initial) × (is_kn
 
 -- an order that explains the operations of a register that is atomic and holds; empty for any other
 pub record IsDrawnOrder (book : BookModel) (ids : List OpId) : Type 0 where
-  pub explains : (book.claim.kind ≡ Atomic) × Holds book.claim book.ops → IsOrder (with_start book.claim book.ops) book.ops ids
-  pub none : ¬ ((book.claim.kind ≡ Atomic) × Holds book.claim book.ops) → ids ≡ []
+  pub explains : (book.claim.kind ≡ Atomic) × Holds (claimed_of book) → IsOrder (with_start (claimed_of book)) book.ops ids
+  pub none : ¬ ((book.claim.kind ≡ Atomic) × Holds (claimed_of book)) → ids ≡ []
 
 -- the register of this number: its name, its kind, its value at first, its operations, the witness, none exactly where it
 -- holds, and an order
@@ -42,7 +42,7 @@ pub record IsSubjectOf (tower : TowerModel) (id : RegId) (book : BookModel) (sub
   pub initial : IfSome (slice_get tower.registers id.0) (λ register. IsInitialOf register.claim subject.initial)
   pub ops : ops_in_slots subject.slots.now ≡ book.ops
   pub witness : IfSome subject.witness (IsWitness book.claim book.ops)
-  pub none : IsNone subject.witness ↔ Holds book.claim book.ops
+  pub none : IsNone subject.witness ↔ Holds (claimed_of book)
   pub order : IsDrawnOrder book subject.order.now
 
 -- how much of a register is asked for

@@ -7,7 +7,7 @@ use Rattle.intervals.specs.declared.operation.Op.{Op}
 use Rattle.intervals.specs.declared.operation.Moment.{Moment}
 use Rattle.intervals.specs.declared.operation.Value.{Value}
 use Rattle.intervals.specs.declared.edit.Edit.TheVariants.{Append}
-use Rattle.intervals.specs.Terms.{ClaimModel}
+use Rattle.intervals.specs.Terms.{ClaimModel, state_of}
 use Rattle.intervals.specs.Operation.{EndsBefore, Precedes, IsWrite, IsJudgedRead, same_id, value_of, judged}
 use Rattle.intervals.specs.Edit.{op_of}
 use Rattle.intervals.specs.Kind.{HasNoWrite}
@@ -29,9 +29,9 @@ ends_sooner a b le apart = by_cases (cases_order a.0 b.0)
     by_cases (inr (inl lt)) = lt
     by_cases (inr (inr gt)) = absurd (omega arith)
 
-module _ (claim : ClaimModel) (ops : List Op) (op : Op) (accepted : reply_to claim ops (Append op) ≡ None) (no_end : op.end ≡ None) (latest : IsLatest ops op.begin) where
+module _ (claim : ClaimModel) (ops : List Op) (op : Op) (accepted : reply_to (state_of claim ops) (Append op) ≡ None) (no_end : op.end ≡ None) (latest : IsLatest ops op.begin) where
   first : first_refusal ops (Append op) ≡ None
-  first = edit_accepted claim ops (Append op) accepted
+  first = edit_accepted (state_of claim ops) (Append op) accepted
 
   -- the id of the operation is new
   new_id : All (λ other. same_id other.id op.id ≡ false) ops

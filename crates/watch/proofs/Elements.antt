@@ -52,7 +52,7 @@ module _ (claim : ClaimModel) (feeder : ℕ) (register : RegId) (items more : Li
   late_in_order = come_rest (unedited claim) early late (subst (ComeInOrder (unedited claim)) all_is (lists_in_order claim feeder register (items ++ more) trace))
 
   abbrev FailsAfter : List AnEdit → Type 0
-  FailsAfter es = ¬ Holds (standing (unedited claim) es).claim (standing (unedited claim) es).ops
+  FailsAfter es = ¬ Holds (standing (unedited claim) es)
 
   lists_fail_known : claim.known ≡ true → FailsAfter (edit_lists register (steps_of feeder items)) → FailsAfter (edit_lists register (steps_of feeder (items ++ more)))
   lists_fail_known t fails = subst FailsAfter (sym all_is) (fails_again_known claim early late t late_in_order fails)
@@ -71,10 +71,10 @@ elements_in_order claim feeder register items trace =
 
 module _ (claim : ClaimModel) (feeder register : ℕ) (items more : List (Result Item FormFault)) (trace : IsPlainTrace (items ++ more)) where
   abbrev FailAfter : List StepResult → Type 0
-  FailAfter taken = let held = standing (unedited claim) (edits_among register taken) in ¬ Holds held.claim held.ops
+  FailAfter taken = ¬ Holds (standing (unedited claim) (edits_among register taken))
 
   abbrev Fail : List AnEdit → Type 0
-  Fail list = ¬ Holds (standing (unedited claim) list).claim (standing (unedited claim) list).ops
+  Fail list = ¬ Holds (standing (unedited claim) list)
 
   fail_lists : (taken : List StepResult) → FailAfter taken → Fail (edit_lists (record { 0 = register }) taken)
   fail_lists taken h = subst Fail (among_lists register taken) h

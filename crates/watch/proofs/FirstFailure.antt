@@ -1,5 +1,5 @@
 -- Where a register that failed never holds again, its first change to `fails` is its last.
-use Rattle.std.proofs.Common.{◌≡◌, ◌==◌, ℕ, Bool, true, false, not, ◌||◌, List, [], ◌∷◌, ◌++◌, Option, refl, sym, ap, subst, ◌∙◌, append-nil, append_assoc, arith}
+use Rattle.std.proofs.Common.{◌≡◌, ◌==◌, ℕ, Bool, true, false, ◌||◌, List, [], ◌∷◌, ◌++◌, Option, refl, sym, ap, subst, ◌∙◌, append-nil, append_assoc, arith}
 use Rattle.std.specs.Prelude.{◌↔◌, IsSomeAnd, if◌then◌else◌}
 use Rattle.std.specs.List.{list_any}
 use Rattle.std.proofs.lemmas.Bool.Decides.{nat_tests}
@@ -65,8 +65,8 @@ module _ (plan : Plan) (register : ℕ) where
   fails_after : (journal : List Entry) (entry : Entry) (change : VerdictChange) → IsVerdictChangeBy plan journal entry change → entry.register.0 ≡ register → change_fails change ≡ true → ¬ HoldsAfter plan register (journal ++ entry ∷ [])
   fails_after journal entry change by own fails holds =
       let there : HoldsAfter plan entry.register.0 (journal ++ entry ∷ []) = subst (λ (n : ℕ). HoldsAfter plan n (journal ++ entry ∷ [])) (sym own) holds in
-      let holds_here : Holds (left_by (journal ++ entry ∷ []) entry.register.0 by.claim).claim (left_by (journal ++ entry ∷ []) entry.register.0 by.claim).ops =
-      subst (λ (c : Option ClaimModel). IsSomeAnd c (λ claim. Holds (left_by (journal ++ entry ∷ []) entry.register.0 claim).claim (left_by (journal ++ entry ∷ []) entry.register.0 claim).ops)) by.known there in
+      let holds_here : Holds (left_by (journal ++ entry ∷ []) entry.register.0 by.claim) =
+      subst (λ (c : Option ClaimModel). IsSomeAnd c (λ claim. Holds (left_by (journal ++ entry ∷ []) entry.register.0 claim))) by.known there in
       let says : change.holds ≡ true = by.verdict.1 holds_here in
       absurd (cc)
 

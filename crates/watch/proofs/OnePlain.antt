@@ -146,7 +146,7 @@ FrontsAreLegal = (plan : Plan) (at : ℕ) (front rest : List Entry) → IsLegalJ
 abbrev pub AreAlike : Type 0
 AreAlike = (claim : ClaimModel) (edits others : List Edit) → map bare_edit edits ≡ map bare_edit others
     → let one = standing (unedited claim) edits in let other = standing (unedited claim) others in
-    (one.claim ≡ other.claim) × (Holds one.claim one.ops ↔ Holds other.claim other.ops) × (length one.ops ≡ length other.ops)
+    (one.claim ≡ other.claim) × (Holds one ↔ Holds other) × (length one.ops ≡ length other.ops)
 
 -- the initial value is known, or the later edits leave the values that reads returned
 abbrev MayGoOn : ClaimModel → List Edit → Type 0
@@ -154,16 +154,16 @@ MayGoOn claim all = (first mid rest : List Edit) → all ≡ first ++ (mid ++ re
 
 module _ (present : Stands) (fronts : FrontsAreLegal) (alike : AreAlike) (plan : Plan) (at register : ℕ) (claim : ClaimModel) (known : slice_get plan.claims register ≡ Some claim) where
   abbrev HoldsUnder : List Edit → Type 0
-  HoldsUnder edits = Holds (standing (unedited claim) edits).claim (standing (unedited claim) edits).ops
+  HoldsUnder edits = Holds (standing (unedited claim) edits)
 
   abbrev HoldsWith : List Entry → Option ClaimModel → Type 0
-  HoldsWith journal found = IsSomeAnd found (λ claim. Holds (left_by journal register claim).claim (left_by journal register claim).ops)
+  HoldsWith journal found = IsSomeAnd found (λ claim. Holds (left_by journal register claim))
 
   to_edits : (journal : List Entry) → IsLegalJournal plan at journal → HoldsAfter plan register journal → HoldsUnder (edits_of register journal)
-  to_edits journal legal holds = subst (λ (held : RegisterState). Holds held.claim held.ops) (present plan at register claim journal legal known) (subst (HoldsWith journal) known holds)
+  to_edits journal legal holds = subst Holds (present plan at register claim journal legal known) (subst (HoldsWith journal) known holds)
 
   of_edits : (journal : List Entry) → IsLegalJournal plan at journal → HoldsUnder (edits_of register journal) → HoldsAfter plan register journal
-  of_edits journal legal holds = subst (HoldsWith journal) (sym known) (subst (λ (held : RegisterState). Holds held.claim held.ops) (sym (present plan at register claim journal legal known)) holds)
+  of_edits journal legal holds = subst (HoldsWith journal) (sym known) (subst Holds (sym (present plan at register claim journal legal known)) holds)
 
   edits_append : (front rest : List Entry) → edits_of register (front ++ rest) ≡ edits_of register front ++ edits_of register rest
   edits_append front rest = ap (map (λ (e : Entry). e.edit)) (filter-append (is_of register) front rest) ∙ map-append (λ (e : Entry). e.edit) (filter (is_of register) front) (filter (is_of register) rest)
@@ -187,7 +187,7 @@ module _ (present : Stands) (fronts : FrontsAreLegal) (alike : AreAlike) (plan :
       come_front (standing (unedited claim) first.front) second.front second.back (come_rest (unedited claim) first.front (second.front ++ second.back) (subst (ComeInOrder (unedited claim)) whole order)) in
       let before : HoldsUnder first.front =
       held_before (standing (unedited claim) first.front) second.front (standing_apart claim first.front) in_order (may first.front second.front second.back whole)
-      (subst (λ (held : RegisterState). Holds held.claim held.ops) (standing_append (unedited claim) first.front second.front) later) in
+      (subst Holds (standing_append (unedited claim) first.front second.front) later) in
       of_edits front legal_front ((alike claim (edits_of register front) first.front first.fronts).1.1 before)
 
   may_known : claim.known ≡ true → (all : List Edit) → MayGoOn claim all

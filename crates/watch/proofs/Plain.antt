@@ -18,6 +18,7 @@ use Rattle.intervals.specs.Edit.{edited}
 use Rattle.intervals.specs.Refusal.{after_edit, standing}
 use Rattle.intervals.specs.Terms.{ClaimModel, RegisterState, unedited}
 use Rattle.intervals.proofs.Members.{all_from}
+use Rattle.intervals.proofs.Standing.{after_one}
 use Rattle.jepsen_form.specs.declared.item.Action.{Action}
 use Rattle.jepsen_form.specs.declared.item.Action.TheVariants as actions
 use Rattle.jepsen_form.specs.declared.item.Event.{Event as AnEvent}
@@ -36,7 +37,6 @@ use Rattle.logs.specs.Steps.{by_pairing}
 use Rattle.watch.specs.Trace.{IsNoEdit, item_moment, IsNotAfter}
 use Rattle.watch.proofs.Placing.{edit_list, GoesBefore, IsPlain, edits_after, edits_of_items}
 use Rattle.watch.proofs.Members.{here, in_none, kept_present}
-use Rattle.watch.proofs.Failing.{after_one}
 use Rattle.watch.proofs.Waits.{unanswered_push, refused_push, taken_push, writes, IsBehind, IsOpen, Stands, later, fewer_wait, fewer_stand, invoked, appended, ended}
 
 -- the edits come in order, and afterwards the operations stand as before items that come

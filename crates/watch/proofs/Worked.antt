@@ -10,7 +10,7 @@ use Rattle.intervals.specs.declared.operation.OpId.{OpId}
 use Rattle.intervals.specs.declared.operation.Value.TheVariants.{Nil}
 use Rattle.intervals.specs.declared.edit.Change.{Change}
 use Rattle.intervals.specs.declared.edit.Lent.TheVariants.{Answer}
-use Rattle.intervals.specs.Terms.{unedited}
+use Rattle.intervals.specs.Terms.{unedited, state_of}
 use Rattle.intervals.specs.Bare.{no_text}
 use Rattle.intervals.specs.Edit.{changed}
 use Rattle.intervals.specs.Histories.{number, place, op}
@@ -98,13 +98,13 @@ heals_in_order = (
   ),
 )
 
-pub heals : Holds of_unknown_initial (read ∷ [])
+pub heals : Holds (state_of of_unknown_initial (read ∷ []))
 heals = (
   number 7,
   of_one (λ w. IsWrite w → value_of w.act ≢ number 7) read (λ write. absurd (cc)),
   (read ∷ [], record { each_once = IsPermutation-refl (read ∷ []); keeps = (tt, tt); reads = (refl, tt) }),
 )
 
-pub fails_before : ¬ Holds of_unknown_initial (read ∷ written ∷ [])
+pub fails_before : ¬ Holds (state_of of_unknown_initial (read ∷ written ∷ []))
 fails_before (value, none, arranged) =
     early_alone read written (number 7) value arranged.0 refl refl (lit< tt) none arranged.1.each_once arranged.1.keeps arranged.1.reads

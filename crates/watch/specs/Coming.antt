@@ -37,7 +37,7 @@ ComesLast ops (Claim kind) = ⊥
 -- each of the edits, one by one, is refused or comes last of those before it (`ComesLast`)
 abbrev pub ComeInOrder : RegisterState → List Edit → Type 0
 ComeInOrder held [] = Unit {0}
-ComeInOrder held (edit ∷ edits) = (reply_to held.claim held.ops edit ≡ None → ComesLast held.ops edit) × ComeInOrder (after_edit held edit) edits
+ComeInOrder held (edit ∷ edits) = (reply_to held edit ≡ None → ComesLast held.ops edit) × ComeInOrder (after_edit held edit) edits
 
 -- the edit withdraws no write whose value a finished read returned
 abbrev pub LeavesReadValues : List Op → Edit → Type 0
@@ -49,4 +49,4 @@ LeavesReadValues ops (Claim kind) = Unit {0}
 -- each of the edits, one by one, is refused or withdraws no write whose value a finished read returned
 abbrev pub LeaveReadValues : RegisterState → List Edit → Type 0
 LeaveReadValues held [] = Unit {0}
-LeaveReadValues held (edit ∷ edits) = (reply_to held.claim held.ops edit ≡ None → LeavesReadValues held.ops edit) × LeaveReadValues (after_edit held edit) edits
+LeaveReadValues held (edit ∷ edits) = (reply_to held edit ≡ None → LeavesReadValues held.ops edit) × LeaveReadValues (after_edit held edit) edits

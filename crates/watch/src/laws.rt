@@ -62,16 +62,16 @@ pub fn only_what_heals_is_left_out()
 /// finished read returned. Refused edits change nothing.
 pub fn a_failed_register_never_holds_again()
     ensures known { (claim : ClaimModel) (edits later : List Edit) → let held = standing (unedited claim) edits in claim.known ≡ true → ComeInOrder held later
-        → ¬ Holds held.claim held.ops → let after = standing (unedited claim) (edits ++ later) in ¬ Holds after.claim after.ops }
+        → ¬ Holds held → ¬ Holds (standing (unedited claim) (edits ++ later)) }
     ensures unread { (claim : ClaimModel) (edits later : List Edit) → let held = standing (unedited claim) edits in ComeInOrder held later → LeaveReadValues held later
-        → ¬ Holds held.claim held.ops → let after = standing (unedited claim) (edits ++ later) in ¬ Holds after.claim after.ops }
+        → ¬ Holds held → ¬ Holds (standing (unedited claim) (edits ++ later)) }
 {}
 
 /// A register that holds after an accepted edit that comes last held before it, where its initial value is known or
 /// the edit withdraws no write whose value a finished read returned.
 pub fn a_register_that_holds_held_before()
-    ensures { (held : RegisterState) (edit : Edit) → StandApart held.claim held.ops → reply_to held.claim held.ops edit ≡ None → ComesLast held.ops edit
-        → (held.claim.known ≡ true) ⊎ LeavesReadValues held.ops edit → let after = carried_out held edit in Holds after.claim after.ops → Holds held.claim held.ops }
+    ensures { (held : RegisterState) (edit : Edit) → StandApart held → reply_to held edit ≡ None → ComesLast held.ops edit
+        → (held.claim.known ≡ true) ⊎ LeavesReadValues held.ops edit → Holds (carried_out held edit) → Holds held }
 {}
 
 /// The edits of a register among the steps of a plain trace come in the order of time.
@@ -85,34 +85,34 @@ pub fn a_plain_trace_comes_in_order()
 /// a finished read returned.
 pub fn a_trace_that_fails_never_holds_again()
     ensures known { (claim : ClaimModel) (feeder register : ℕ) (items more : List (Result Item FormFault)) → claim.known ≡ true → IsPlainTrace (items ++ more)
-        → let held = standing (unedited claim) (edits_among register (steps_of feeder items)) in ¬ Holds held.claim held.ops
-        → let after = standing (unedited claim) (edits_among register (steps_of feeder (items ++ more))) in ¬ Holds after.claim after.ops }
+        → ¬ Holds (standing (unedited claim) (edits_among register (steps_of feeder items)))
+        → ¬ Holds (standing (unedited claim) (edits_among register (steps_of feeder (items ++ more)))) }
     ensures without_fail { (claim : ClaimModel) (feeder register : ℕ) (items more : List (Result Item FormFault)) → All IsNoFail more → IsPlainTrace (items ++ more)
-        → let held = standing (unedited claim) (edits_among register (steps_of feeder items)) in ¬ Holds held.claim held.ops
-        → let after = standing (unedited claim) (edits_among register (steps_of feeder (items ++ more))) in ¬ Holds after.claim after.ops }
+        → ¬ Holds (standing (unedited claim) (edits_among register (steps_of feeder items)))
+        → ¬ Holds (standing (unedited claim) (edits_among register (steps_of feeder (items ++ more)))) }
     ensures unread { (claim : ClaimModel) (feeder register : ℕ) (items more : List (Result Item FormFault)) → IsPlainTrace (items ++ more)
         → let held = standing (unedited claim) (edits_among register (steps_of feeder items)) in
-        LeaveReadValues held (edits_among register (steps_after feeder items more)) → ¬ Holds held.claim held.ops
-        → let after = standing (unedited claim) (edits_among register (steps_of feeder (items ++ more))) in ¬ Holds after.claim after.ops }
+        LeaveReadValues held (edits_among register (steps_after feeder items more)) → ¬ Holds held
+        → ¬ Holds (standing (unedited claim) (edits_among register (steps_of feeder (items ++ more)))) }
 {}
 
 /// Where nobody knows the initial value, a read of 7 that ended before a write of 7 began fails; where that write is
 /// then withdrawn, the register may have begun with 7, and holds again.
 pub fn a_withdrawn_write_may_heal()
     ensures in_order { ComeInOrder (unedited of_unknown_initial) (read_then_invoked ++ write_withdrawn ∷ []) }
-    ensures fails { let held = standing (unedited of_unknown_initial) read_then_invoked in ¬ Holds held.claim held.ops }
-    ensures holds { let held = standing (unedited of_unknown_initial) (read_then_invoked ++ write_withdrawn ∷ []) in Holds held.claim held.ops }
+    ensures fails { ¬ Holds (standing (unedited of_unknown_initial) read_then_invoked) }
+    ensures holds { Holds (standing (unedited of_unknown_initial) (read_then_invoked ++ write_withdrawn ∷ [])) }
 {}
 
 /// Edits that do not come in the order of time may heal too: a write that began before, as of another trace, another
 /// value or no end for a read that was finished, its withdrawal, or another claim.
 pub fn edits_out_of_order_may_heal()
-    ensures fails { let held = standing (unedited of_one_process) read_of_one in ¬ Holds held.claim held.ops }
-    ensures older { let held = standing (unedited of_one_process) (read_of_one ++ older_write ∷ []) in Holds held.claim held.ops }
-    ensures value { let held = standing (unedited of_one_process) (read_of_one ++ answered_at 0 Nil 3 ∷ []) in Holds held.claim held.ops }
-    ensures withdrawn { let held = standing (unedited of_one_process) (read_of_one ++ Withdraw (place 0) ∷ []) in Holds held.claim held.ops }
-    ensures fails_as_regular { let held = standing (unedited of_one_process) seven_within_write in ¬ Holds held.claim held.ops }
-    ensures claim { let held = standing (unedited of_one_process) (seven_within_write ++ ToKind Safe ∷ []) in Holds held.claim held.ops }
+    ensures fails { ¬ Holds (standing (unedited of_one_process) read_of_one) }
+    ensures older { Holds (standing (unedited of_one_process) (read_of_one ++ older_write ∷ [])) }
+    ensures value { Holds (standing (unedited of_one_process) (read_of_one ++ answered_at 0 Nil 3 ∷ [])) }
+    ensures withdrawn { Holds (standing (unedited of_one_process) (read_of_one ++ Withdraw (place 0) ∷ [])) }
+    ensures fails_as_regular { ¬ Holds (standing (unedited of_one_process) seven_within_write) }
+    ensures claim { Holds (standing (unedited of_one_process) (seven_within_write ++ ToKind Safe ∷ [])) }
 {}
 
 /// In what a watch of one plain trace wrote of a register nothing stands after a change to `fails`: the first failure is

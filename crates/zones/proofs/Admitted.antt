@@ -14,7 +14,7 @@ use Rattle.intervals.specs.Refusal.{reply_to}
 use Rattle.intervals.specs.declared.claim.Kind.TheVariants.{Atomic}
 use Rattle.intervals.specs.Table.{TableModel, prepared_after}
 use Rattle.intervals.specs.Target.{IsTargetOf}
-use Rattle.intervals.specs.Terms.{ClaimModel}
+use Rattle.intervals.specs.Terms.{ClaimModel, state_of}
 use Rattle.zone_tree.specs.declared.zone.Zone.{Zone}
 use Rattle.zone_tree.specs.declared.stretch.Stretch.{Stretch}
 use Rattle.zone_tree.specs.StretchOrder.{StretchContents as Stretches}
@@ -134,7 +134,7 @@ module _ (members : Members) (records : Records) (zones : Zones) (stretches : St
 
 -- what is asked of an edit: nothing refuses it, the target is its own, and its new operation is prepared
 pub record IsAsked (claim : ClaimModel) (ops : List Op) (prepared : Option Op) (edit : Edit) (target : Target) : Type 0 where
-  pub accepted : reply_to claim ops edit ≡ None
+  pub accepted : reply_to (state_of claim ops) edit ≡ None
   pub target_is : IsTargetOf ops edit target
   pub held : IfSome target.new (λ op. prepared ≡ Some op)
 
@@ -146,7 +146,7 @@ came old new = other_value (value_in old) (value_in new)
 -- come, and `after` are the operations after it
 pub record IsMade (claim : ClaimModel) (ops : List Op) (edit : Edit) (old new : Option Op) (after : List Op) : Type 0 where
   pub apart : AreManyWriters claim ops
-  pub accepted : reply_to claim ops edit ≡ None
+  pub accepted : reply_to (state_of claim ops) edit ≡ None
   pub goes : old ≡ judged_part (found_by ops (edit_id edit))
   pub comes : new ≡ judged_part (new_op ops edit)
   pub made : after ≡ edited ops edit

@@ -14,7 +14,7 @@ use Rattle.intervals.specs.Operation.{IsWrite, is_write, same_id, judged, value_
 use Rattle.intervals.specs.Edit.{op_of, found_by, has_id, amended, changed, edited, new_op, edit_id}
 use Rattle.intervals.specs.Refusal.{first_refusal, moments_refusal, reply_to}
 use Rattle.intervals.specs.Standing.{HasDistinctIds, ShareNoMoment}
-use Rattle.intervals.specs.Terms.{ClaimModel}
+use Rattle.intervals.specs.Terms.{ClaimModel, state_of}
 use Rattle.intervals.specs.declared.claim.Kind.TheVariants.{Atomic}
 use Rattle.intervals.proofs.Accepted.{edit_accepted}
 use Rattle.intervals.proofs.Found.{find-Some}
@@ -150,9 +150,9 @@ module _ (claim : ClaimModel) (ops : List Op) (apart : AreManyWriters claim ops)
 pub apart_none : (claim : ClaimModel) → claim.kind ≡ Atomic → AreManyWriters claim []
 apart_none claim atomic = record { atomic = atomic; kept = nothing_apart claim }
 
-module _ (claim : ClaimModel) (ops : List Op) (edit : Edit) (apart : AreManyWriters claim ops) (accepted : reply_to claim ops edit ≡ None) where
+module _ (claim : ClaimModel) (ops : List Op) (edit : Edit) (apart : AreManyWriters claim ops) (accepted : reply_to (state_of claim ops) edit ≡ None) where
   pub apart_kept : AreManyWriters claim (edited ops edit)
-  apart_kept = record { atomic = apart.atomic; kept = edited_apart claim ops edit apart.kept accepted }
+  apart_kept = record { atomic = apart.atomic; kept = edited_apart (state_of claim ops) edit apart.kept accepted }
 
   abbrev old : Option Op
   old = judged_part (found_by ops (edit_id edit))
@@ -162,7 +162,7 @@ module _ (claim : ClaimModel) (ops : List Op) (edit : Edit) (apart : AreManyWrit
 
   -- an operation that is judged after the edit is its new one, or it was judged before and has another id
   from_judged : (x : Op) → Contains (judged (edited ops edit)) x → (new ≡ Some x) ⊎ (Contains (judged ops) x × (has_id (edit_id edit) x ≡ false))
-  from_judged x h = let (k, t) = kept_present is_judged (edited ops edit) x h in by_cases t (from_edited ops edit x apart.kept.ids (edit_accepted claim ops edit accepted) k)
+  from_judged x h = let (k, t) = kept_present is_judged (edited ops edit) x h in by_cases t (from_edited ops edit x apart.kept.ids (edit_accepted (state_of claim ops) edit accepted) k)
     where
       by_cases : is_judged x ≡ true → StandsAfter ops edit x → (new ≡ Some x) ⊎ (Contains (judged ops) x × (has_id (edit_id edit) x ≡ false))
       by_cases t (inl e) = inl (part_of (new_op ops edit) x e t)

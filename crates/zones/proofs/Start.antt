@@ -508,7 +508,7 @@ module _ (claim : ClaimModel) (ops : List Op) where
   first_crossing_from a b c d x = record { first = x.first; second = x.second; conflict = conflict_from (initial_of claim ops) ops x.first x.second x.conflict; extremes = x.extremes }
 
 -- after any edits of an atomic register: faultless exactly where it holds
-pub faultless_after_edits : (claim : ClaimModel) (edits : List Edit) → let held = standing (unedited claim) edits in held.claim.kind ≡ Atomic → IsFaultless (start_of held.claim held.ops) held.ops ↔ Holds held.claim held.ops
+pub faultless_after_edits : (claim : ClaimModel) (edits : List Edit) → let held = standing (unedited claim) edits in held.claim.kind ≡ Atomic → IsFaultless (start_of held.claim held.ops) held.ops ↔ Holds held
 faultless_after_edits claim edits atomic =
     let held = standing (unedited claim) edits in
     let apart = standing_apart claim edits in

@@ -6,7 +6,7 @@ use Rattle.intervals.specs.declared.edit.Edit.{Edit}
 use Rattle.intervals.specs.Edit.{new_op, edited, edit_id, found_by}
 use Rattle.intervals.specs.Refusal.{reply_to}
 use Rattle.intervals.specs.Table.{TableModel, admitted, prepared_after}
-use Rattle.intervals.specs.Terms.{ClaimModel}
+use Rattle.intervals.specs.Terms.{ClaimModel, state_of}
 use Rattle.zone_tree.specs.declared.zone.Zone.{Zone}
 use Rattle.zone_tree.specs.Order.{ZoneContents as Zones}
 use Rattle.zone_tree.specs.declared.stretch.Stretch.{Stretch}
@@ -58,7 +58,7 @@ same_records before after records are change = record {
 }
 
 pub together_unjudged : (claim : ClaimModel) (table : TableModel) (members : Members) (records : Records) (zones : Zones) (stretches : Stretches) → AreOfOneRegister claim table members records zones stretches
-    → (edit : Edit) → reply_to claim table.ops edit ≡ None → None ≡ judged_part (found_by table.ops (edit_id edit)) → None ≡ judged_part (new_op table.ops edit)
+    → (edit : Edit) → reply_to (state_of claim table.ops) edit ≡ None → None ≡ judged_part (found_by table.ops (edit_id edit)) → None ≡ judged_part (new_op table.ops edit)
     → IfSome (new_op table.ops edit) (λ op. table.prepared ≡ Some op) → AreOfOneRegister claim (admitted table edit) members records zones stretches
 together_unjudged claim table members records zones stretches together edit accepted old_is new_is held =
     let ops = table.ops in

@@ -4,7 +4,7 @@ use Rattle.std.specs.List.{list_any}
 use Rattle.intervals.specs.declared.operation.Op.{Op}
 use Rattle.intervals.specs.declared.operation.Value.{Value}
 use Rattle.intervals.specs.declared.operation.Value.TheVariants.{Nil, Int}
-use Rattle.intervals.specs.Terms.{ClaimModel}
+use Rattle.intervals.specs.Terms.{ClaimModel, RegisterState}
 use Rattle.intervals.specs.Operation.{IsJudgedRead, is_judged_read, value_of, same_value}
 use Rattle.intervals.specs.Refusal.{is_initial}
 use Rattle.intervals.specs.Standing.{IsInitial}
@@ -89,5 +89,5 @@ abbrev pub start_of : ClaimModel → List Op → Value
 start_of claim ops = or_fresh ops (initial_of claim ops)
 
 -- the claim with the value that the register begins with (`start_of`) as its initial value
-abbrev pub with_start : ClaimModel → List Op → ClaimModel
-with_start claim ops = record claim { initial = start_of claim ops }
+abbrev pub with_start : RegisterState → ClaimModel
+with_start held = record held.claim { initial = start_of held.claim held.ops }

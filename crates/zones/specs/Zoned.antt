@@ -5,7 +5,7 @@ use Rattle.intervals.specs.declared.operation.Value.{Value}
 use Rattle.intervals.specs.Operation.{is_write, value_of, same_value}
 use Rattle.intervals.specs.declared.claim.Kind.TheVariants.{Atomic}
 use Rattle.intervals.specs.Standing.{StandApart}
-use Rattle.intervals.specs.Terms.{ClaimModel}
+use Rattle.intervals.specs.Terms.{ClaimModel, state_of}
 use Rattle.zone_tree.specs.declared.edge.Edge.{Edge}
 use Rattle.zone_tree.specs.declared.zone.Zone.{Zone}
 use Rattle.zone_tree.specs.Edge.{edge_before, same_edge}
@@ -18,7 +18,7 @@ use Rattle.zones.specs.Moves.{AreChanges, AreNew, KeepsRoom, Shape}
 -- the operations are those of an atomic register, with what the reply rule keeps of them (`StandApart`)
 pub record AreManyWriters (claim : ClaimModel) (ops : List Op) : Type 0 where
   pub atomic : claim.kind ≡ Atomic
-  pub kept : StandApart claim ops
+  pub kept : StandApart (state_of claim ops)
 
 -- an optional operation where it is judged (a write, or a read that has an end), else none
 abbrev pub judged_part : Option Op → Option Op

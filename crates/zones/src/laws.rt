@@ -49,7 +49,7 @@ pub fn a_register_begins_with_its_initial_value()
 /// nothing asked of the edits.
 pub fn faultless_exactly_after_any_edits()
     ensures { (claim : ClaimModel) (edits : List Edit) → let held = standing (unedited claim) edits in held.claim.kind ≡ Atomic
-        → IsFaultless (start_of held.claim held.ops) held.ops ↔ Holds held.claim held.ops }
+        → IsFaultless (start_of held.claim held.ops) held.ops ↔ Holds held }
 {}
 
 /// An unwritten read, two reads of different values without a write where nobody knows the initial value, an early

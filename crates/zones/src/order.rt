@@ -4,6 +4,7 @@ ghost use Rattle.std.specs.Prelude.{◌≡◌, ◌++◌, ◌∷◌, [], ◌↔�
 ghost use Rattle.intervals.specs.Operation.{judged, value_of, is_write};
 ghost use Rattle.intervals.specs.Kind.{Arranges, IsAtomic};
 ghost use Rattle.intervals.specs.Table.{ops_in_slots};
+ghost use Rattle.intervals.specs.Terms.{state_of};
 ghost use Rattle.zones.specs.AtFirst.{initial_of, start_of, with_start};
 ghost use Rattle.zones.specs.Cluster.{values_from};
 ghost use Rattle.zones.specs.Fault.{IsFaultless};
@@ -34,7 +35,7 @@ impl<'t> Clusters<'t> {
     /// write before it, where there is one: the clusters by the left edges of their zones, in each the write and
     /// then its reads by their beginnings. Takes memory for the ids and, while it sorts, for the operations.
     pub fn order(&self, alloc: Global) -> Result<Option<Vec<OpId>>, Memory>
-        ensures order { IfOk result (λ found. IfSome found (λ ids. IsOrder (with_start self.now.claim self.now.ops) self.now.ops ids.items)) }
+        ensures order { IfOk result (λ found. IfSome found (λ ids. IsOrder (with_start (state_of self.now.claim self.now.ops)) self.now.ops ids.items)) }
         ensures none { IfOk result (λ found. IsNone found ↔ ¬ IsAtomic self.now.claim self.now.ops) }
         ensures memory { OnErr result (IsAtomic self.now.claim self.now.ops) }
     {
@@ -49,7 +50,7 @@ impl<'t> Clusters<'t> {
     /// The judged operations in turn.
     fn in_turn(&self, alloc: Global) -> Result<Vec<OpInTurn<'t>>, Memory>
         requires { IsFaultless (start_of self.now.claim self.now.ops) self.now.ops }
-        ensures arranges { IfOk result (λ placed. Arranges (with_start self.now.claim self.now.ops) self.now.ops (map (λ p. p.op) placed.items)) }
+        ensures arranges { IfOk result (λ placed. Arranges (with_start (state_of self.now.claim self.now.ops)) self.now.ops (map (λ p. p.op) placed.items)) }
         ensures in_turn { IfOk result (λ placed. IsInTurn (start_of self.now.claim self.now.ops) self.now.ops (map (λ p. p.op) placed.items)) }
     {
         let mut placed = self.placed(alloc, self.operations().slots())?;

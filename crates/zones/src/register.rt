@@ -4,7 +4,7 @@ ghost use Rattle.std.specs.Prelude.{◌≡◌, ◌↔◌, ◌||◌, ◌+◌, ◌
 ghost use Rattle.intervals.specs.Operation.{IsWrite, writes};
 ghost use Rattle.intervals.specs.Edit.{op_of, edited};
 ghost use Rattle.intervals.specs.Target.{IsTargetOf};
-ghost use Rattle.intervals.specs.Terms.{terms_of};
+ghost use Rattle.intervals.specs.Terms.{terms_of, state_of};
 ghost use Rattle.intervals.specs.Kind.{IsAtomic};
 ghost use Rattle.intervals.specs.Refusal.{first_refusal, write_refusal, reply_to, ok_unless};
 ghost use Rattle.intervals.specs.Standing.{HasDistinctMoments, HasEndsAfterBeginnings};
@@ -153,7 +153,7 @@ impl<'t> Clusters<'t> {
     /// Carries out an edit that nothing refuses. It takes no memory where the new operation is prepared or there
     /// is none.
     pub fn admit(&mut self, edit: &Edit<'t>, target: &Target<'t>) -> Result<(), Memory>
-        requires accepted { reply_to self.old.claim self.old.ops edit.now ≡ None }
+        requires accepted { reply_to (state_of self.old.claim self.old.ops) edit.now ≡ None }
         requires target { IsTargetOf self.old.ops edit.now target.now }
         requires prepared { IfSome self.old.prepared (λ op. IfSome target.now.new (λ new. new ≡ op)) }
         ensures ok { OnOk result (self.new ≡ record self.old { ops = edited self.old.ops edit.now; prepared = prepared_after target.now.new self.old.prepared; steps = self.new.steps }) }
@@ -174,7 +174,7 @@ impl<'t> Clusters<'t> {
     /// Carries out an edit whose new operation is prepared. Where neither the old operation nor the new one is
     /// judged, the indexes and the trees stay as they are.
     fn settle(&mut self, edit: &Edit<'t>, target: &Target<'t>)
-        requires accepted { reply_to self.old.claim self.old.ops edit.now ≡ None }
+        requires accepted { reply_to (state_of self.old.claim self.old.ops) edit.now ≡ None }
         requires target { IsTargetOf self.old.ops edit.now target.now }
         requires prepared { IfSome target.now.new (λ op. self.old.prepared ≡ Some op) }
         ensures edited { self.new ≡ record self.old { ops = edited self.old.ops edit.now; prepared = prepared_after target.now.new self.old.prepared; steps = self.new.steps } }
@@ -201,7 +201,7 @@ impl<'t> Clusters<'t> {
         old: &Option<Op<'t>>,
         new: &Option<Op<'t>>,
     )
-        requires accepted { reply_to self.old.claim self.old.ops edit.now ≡ None }
+        requires accepted { reply_to (state_of self.old.claim self.old.ops) edit.now ≡ None }
         requires target { IsTargetOf self.old.ops edit.now target.now }
         requires prepared { IfSome target.now.new (λ op. self.old.prepared ≡ Some op) }
         requires old { old.now ≡ judged_part target.now.old }
@@ -230,7 +230,7 @@ impl<'t> Clusters<'t> {
     /// Appends a write that nothing refuses; where an operation is prepared it takes no memory.
     pub fn admit_write(&mut self, write: &Op<'t>) -> Result<(), Memory>
         requires write { IsWrite write.now }
-        requires accepted { reply_to self.old.claim self.old.ops (Edit.Append write.now) ≡ None }
+        requires accepted { reply_to (state_of self.old.claim self.old.ops) (Edit.Append write.now) ≡ None }
         requires prepared { IfSome self.old.prepared (λ op. write.now ≡ op) }
         ensures succeeds { IsSome self.old.prepared → IsOk result }
         ensures ok { OnOk result (self.new ≡ record self.old { ops = self.old.ops ++ write.now ∷ []; prepared = None; steps = self.new.steps }) }
@@ -247,7 +247,7 @@ impl<'t> Clusters<'t> {
     /// end is kept, and judged once it has one.
     pub fn admit_read(&mut self, read: &Op<'t>) -> Result<(), Memory>
         requires read { ¬ IsWrite read.now }
-        requires accepted { reply_to self.old.claim self.old.ops (Edit.Append read.now) ≡ None }
+        requires accepted { reply_to (state_of self.old.claim self.old.ops) (Edit.Append read.now) ≡ None }
         requires prepared { IfSome self.old.prepared (λ op. read.now ≡ op) }
         ensures succeeds { IsSome self.old.prepared → IsOk result }
         ensures ok { OnOk result (self.new ≡ record self.old { ops = self.old.ops ++ read.now ∷ []; prepared = None; steps = self.new.steps }) }

@@ -1,7 +1,7 @@
 use Rattle.std.proofs.Common.{◌≡◌, None, rules, sym, subst}
 use Rattle.intervals.specs.Refusal.{to_kind_refusal}
 use Rattle.intervals.specs.Standing.{StandApart}
-use Rattle.intervals.specs.Terms.{ClaimModel, RegisterState}
+use Rattle.intervals.specs.Terms.{ClaimModel}
 use Rattle.intervals.proofs.Claimed.{claimed_apart}
 use Rattle.register_book.specs.Judge.{held_by, IsOfItsKind, HasNonePrepared}
 use Rattle.register_book.specs.BookModel.{BookModel, claimed_of}
@@ -15,4 +15,4 @@ invariant_of-self c =
     let accepted : to_kind_refusal c.args.kind before.claim before.ops ≡ None = subst (λ (kept : BookModel). to_kind_refusal c.args.kind kept.claim kept.ops ≡ None) (sym c.self.view_is) c.requires in
     let kind : IsOfItsKind c.in_ok-judge.judge = search rules in
     let left : HasNonePrepared c.in_ok-judge.judge = search rules in
-    (kind, left, subst (λ (held : RegisterState). StandApart held.claim held.ops) (sym held) (claimed_apart c.args.kind before.claim before.ops c.self.invariant.2 accepted))
+    (kind, left, subst StandApart (sym held) (claimed_apart c.args.kind (claimed_of before) c.self.invariant.2 accepted))

@@ -2,11 +2,11 @@ use Rattle.std.proofs.Common.{rules, ◌≡◌, ◌≤◌, ◌+◌, ◌*◌, ◌
 use Rattle.intervals.specs.declared.operation.Op.{Op}
 use Rattle.intervals.specs.Standing.{StandApart}
 use Rattle.intervals.specs.Table.{ops_in_slots, slot_at}
-use Rattle.intervals.specs.Terms.{ClaimModel, RegisterState}
+use Rattle.intervals.specs.Terms.{ClaimModel, RegisterState, state_of}
 use Rattle.intervals.proofs.Claimed.{claimed_apart}
 use Rattle.register_book.specs.declared.judge.Judge.{Judge}
 use Rattle.register_book.specs.Judge.{held_by, IsOfItsKind, HasNonePrepared}
-use Rattle.register_book.specs.BookModel.{most_steps}
+use Rattle.register_book.specs.BookModel.{most_steps, claimed_of}
 use Rattle.register_book.proofs.Again.{HeldAgain, accepted_next, held_all, held_on, held_over, steps_on}
 use Rattle.register_book.proofs.judge.Judge.as_kind.Goals.{in-Some+in_ok-admit, in_default}
 use Rattle.register_book.proofs.judge.Judge.as_kind.Goals as goal
@@ -21,7 +21,7 @@ admit-requires-clause-accepted c =
     let slots = c.slots-slot-items.result.now in
     let present : ops_in_slots slots ≡ before.ops = search rules in
     let at : slot_at slots c.loop-slot.slot-index ≡ Some c.in-Some.op = search rules in
-    let apart = subst (StandApart claim) (sym present) (claimed_apart c.args.kind before.claim before.ops c.requires.apart c.requires.accepted) in
+    let apart = subst (λ (l : List Op). StandApart (state_of claim l)) (sym present) (claimed_apart c.args.kind (claimed_of before) c.requires.apart c.requires.accepted) in
     accepted_next claim slots c.loop-slot.slot-index c.in-Some.op (held_by c.loop-slot.judge) apart at c.loop-slot.invariant.held
 
 pub admit-requires-clause-none_prepared : goal.admit-requires-clause-none_prepared

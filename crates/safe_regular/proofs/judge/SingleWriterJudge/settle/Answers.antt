@@ -5,19 +5,30 @@ use Rattle.intervals.specs.Edit.{found_by, new_op, edited, edit_id}
 use Rattle.intervals.specs.Refusal.{reply_to}
 use Rattle.intervals.specs.Table.{TableModel, prepared_after}
 use Rattle.intervals.specs.Target.{IsTargetOf}
-use Rattle.intervals.specs.Terms.{terms_of}
+use Rattle.intervals.specs.Terms.{terms_of, state_of}
 use Rattle.intervals.proofs.Accepted.{edit_accepted}
 use Rattle.safe_regular.specs.Held.{JudgeModel, CanJudge}
 use Rattle.safe_regular.specs.Writes.{AreWrites, HasPlaceIn, ReservesOnlyForWrite, IsAddedOf}
 use Rattle.safe_regular.proofs.Settled.{can_judge, is_change, later_listed, no_more_listed, only_for, room_after, room_for_new}
 use Rattle.safe_regular.proofs.judge.SingleWriterJudge.settle.Goals as goal
 
+pub change-requires-clause-new : goal.change-requires-clause-new
+change-requires-clause-new c =
+    subst (λ (p : Option Op). IfSome c.args.target.now.new (λ op. p ≡ Some op)) (sym c.prepared.ensures)
+    (subst (λ (x : JudgeModel). IfSome c.args.target.now.new (λ op. x.prepared ≡ Some op)) (sym c.self.view_is) c.requires.prepared)
+
+pub admit-requires-clause-room : goal.admit-requires-clause-room
+admit-requires-clause-room c =
+    let prepared : IfSome c.args.target.now.new (λ op. c.self.inside.table.prepared ≡ Some op) = subst (λ (x : JudgeModel). IfSome c.args.target.now.new (λ op. x.prepared ≡ Some op)) (sym c.self.view_is) c.requires.prepared in
+    let new_is : c.args.target.now.new ≡ new_op c.self.inside.table.ops c.args.edit.now = subst (λ (x : JudgeModel). c.args.target.now.new ≡ new_op x.ops c.args.edit.now) (sym c.self.view_is) c.requires.target.new in
+    subst (λ (new : Option Op). IfSome new (λ op. c.self.inside.table.prepared ≡ Some op)) new_is prepared
+
 pub admit-requires-clause-accepted : goal.admit-requires-clause-accepted
 admit-requires-clause-accepted c =
     let claim = terms_of c.self.inside.claim in
     let ops = c.self.inside.table.ops in
-    let accepted : reply_to claim ops c.args.edit.now ≡ None = subst (λ (x : JudgeModel). reply_to x.claim x.ops c.args.edit.now ≡ None) (sym c.self.view_is) c.requires.accepted in
-    edit_accepted claim ops c.args.edit.now accepted
+    let accepted : reply_to (state_of claim ops) c.args.edit.now ≡ None = subst (λ (x : JudgeModel). reply_to (state_of x.claim x.ops) c.args.edit.now ≡ None) (sym c.self.view_is) c.requires.accepted in
+    edit_accepted (state_of claim ops) c.args.edit.now accepted
 
 pub admit-requires-clause-target : goal.admit-requires-clause-target
 admit-requires-clause-target c = subst (λ (x : JudgeModel). IsTargetOf x.ops c.args.edit.now c.args.target.now) (sym c.self.view_is) c.requires.target
@@ -27,7 +38,7 @@ change-requires-2-clause-judged c =
     let claim = terms_of c.self.inside.claim in
     let ops = c.self.inside.table.ops in
     let held = c.self.invariant in
-    let accepted : reply_to claim ops c.args.edit.now ≡ None = subst (λ (x : JudgeModel). reply_to x.claim x.ops c.args.edit.now ≡ None) (sym c.self.view_is) c.requires.accepted in
+    let accepted : reply_to (state_of claim ops) c.args.edit.now ≡ None = subst (λ (x : JudgeModel). reply_to (state_of x.claim x.ops) c.args.edit.now ≡ None) (sym c.self.view_is) c.requires.accepted in
     let new_is : c.args.target.now.new ≡ new_op ops c.args.edit.now = subst (λ (x : JudgeModel). c.args.target.now.new ≡ new_op x.ops c.args.edit.now) (sym c.self.view_is) c.requires.target.new in
     let old_is : c.args.target.now.old ≡ found_by ops (edit_id c.args.edit.now) = subst (λ (x : JudgeModel). c.args.target.now.old ≡ found_by x.ops (edit_id c.args.edit.now)) (sym c.self.view_is) c.requires.target.old in
     let listed : c.admit.new.self.ops ≡ edited ops c.args.edit.now = ap (λ (t : TableModel). t.ops) c.admit.ensures in
@@ -38,7 +49,7 @@ change-requires-2-clause-change c =
     let claim = terms_of c.self.inside.claim in
     let ops = c.self.inside.table.ops in
     let held = c.self.invariant in
-    let accepted : reply_to claim ops c.args.edit.now ≡ None = subst (λ (x : JudgeModel). reply_to x.claim x.ops c.args.edit.now ≡ None) (sym c.self.view_is) c.requires.accepted in
+    let accepted : reply_to (state_of claim ops) c.args.edit.now ≡ None = subst (λ (x : JudgeModel). reply_to (state_of x.claim x.ops) c.args.edit.now ≡ None) (sym c.self.view_is) c.requires.accepted in
     let new_is : c.args.target.now.new ≡ new_op ops c.args.edit.now = subst (λ (x : JudgeModel). c.args.target.now.new ≡ new_op x.ops c.args.edit.now) (sym c.self.view_is) c.requires.target.new in
     let old_is : c.args.target.now.old ≡ found_by ops (edit_id c.args.edit.now) = subst (λ (x : JudgeModel). c.args.target.now.old ≡ found_by x.ops (edit_id c.args.edit.now)) (sym c.self.view_is) c.requires.target.old in
     let listed : c.admit.new.self.ops ≡ edited ops c.args.edit.now = ap (λ (t : TableModel). t.ops) c.admit.ensures in
@@ -54,7 +65,7 @@ invariant_of-self c =
     let claim = terms_of c.self.inside.claim in
     let ops = c.self.inside.table.ops in
     let held = c.self.invariant in
-    let accepted : reply_to claim ops c.args.edit.now ≡ None = subst (λ (x : JudgeModel). reply_to x.claim x.ops c.args.edit.now ≡ None) (sym c.self.view_is) c.requires.accepted in
+    let accepted : reply_to (state_of claim ops) c.args.edit.now ≡ None = subst (λ (x : JudgeModel). reply_to (state_of x.claim x.ops) c.args.edit.now ≡ None) (sym c.self.view_is) c.requires.accepted in
     let new_is : c.args.target.now.new ≡ new_op ops c.args.edit.now = subst (λ (x : JudgeModel). c.args.target.now.new ≡ new_op x.ops c.args.edit.now) (sym c.self.view_is) c.requires.target.new in
     let old_is : c.args.target.now.old ≡ found_by ops (edit_id c.args.edit.now) = subst (λ (x : JudgeModel). c.args.target.now.old ≡ found_by x.ops (edit_id c.args.edit.now)) (sym c.self.view_is) c.requires.target.old in
     let listed : c.admit.new.self.ops ≡ edited ops c.args.edit.now = ap (λ (t : TableModel). t.ops) c.admit.ensures in

@@ -1,6 +1,6 @@
 use Rattle.std.proofs.Common.{map, rules}
 use Rattle.std.proofs.lemmas.Fn.{always_returns_same}
-use Rattle.intervals.specs.Terms.{ClaimModel}
+use Rattle.intervals.specs.Terms.{ClaimModel, state_of}
 use Rattle.zones.specs.AtFirst.{with_start}
 use Rattle.zones.proofs.Existence.{turn_arranges}
 use Rattle.zones.proofs.KeyOrder.{each_once, sorted_in_turn}
@@ -8,7 +8,7 @@ use Rattle.zones.proofs.register.Clusters.in_turn.Goals as goal
 
 pub returns : goal.returns
 returns c =
-    let claim : ClaimModel = with_start c.args.self.now.claim c.args.self.now.ops in
+    let claim : ClaimModel = with_start (state_of c.args.self.now.claim c.args.self.now.ops) in
     let ops = c.args.self.now.ops in
     let placed = c.in_ok-placed.placed.items in
     let sorted = c.sort_unstable_by_key.new.self.items in

@@ -6,7 +6,7 @@ use Rattle.intervals.specs.Edit.{new_op, edited, edit_id, found_by}
 use Rattle.intervals.specs.Refusal.{reply_to}
 use Rattle.intervals.specs.Table.{TableModel, prepared_after}
 use Rattle.intervals.specs.Target.{IsTargetOf}
-use Rattle.intervals.specs.Terms.{terms_of}
+use Rattle.intervals.specs.Terms.{terms_of, state_of}
 use Rattle.intervals.proofs.Accepted.{edit_accepted}
 use Rattle.zone_tree.specs.Digits.{binary_digits}
 use Rattle.zones.specs.Together.{ClustersModel, AreOfOneRegister}
@@ -18,7 +18,7 @@ pub admit-requires-clause-accepted : goal.admit-requires-clause-accepted
 admit-requires-clause-accepted c =
     let claim = terms_of c.self.inside.claim in
     let ops = c.self.inside.table.ops in
-    edit_accepted claim ops c.args.edit.now (subst (λ (x : ClustersModel). reply_to x.claim x.ops c.args.edit.now ≡ None) (sym c.self.view_is) c.requires.accepted)
+    edit_accepted (state_of claim ops) c.args.edit.now (subst (λ (x : ClustersModel). reply_to (state_of x.claim x.ops) c.args.edit.now ≡ None) (sym c.self.view_is) c.requires.accepted)
 
 pub admit-requires-clause-target : goal.admit-requires-clause-target
 admit-requires-clause-target c = subst (λ (x : ClustersModel). IsTargetOf x.ops c.args.edit.now c.args.target.now) (sym c.self.view_is) c.requires.target
@@ -35,7 +35,7 @@ invariant_of-self c =
     let claim = terms_of c.self.inside.claim in
     let table = c.self.inside.table in
     let ops = table.ops in
-    let accepted : reply_to claim ops c.args.edit.now ≡ None = subst (λ (x : ClustersModel). reply_to x.claim x.ops c.args.edit.now ≡ None) (sym c.self.view_is) c.requires.accepted in
+    let accepted : reply_to (state_of claim ops) c.args.edit.now ≡ None = subst (λ (x : ClustersModel). reply_to (state_of x.claim x.ops) c.args.edit.now ≡ None) (sym c.self.view_is) c.requires.accepted in
     let found : c.args.target.now.old ≡ found_by ops (edit_id c.args.edit.now) = subst (λ (x : ClustersModel). c.args.target.now.old ≡ found_by x.ops (edit_id c.args.edit.now)) (sym c.self.view_is) c.requires.target.old in
     let asked : c.args.target.now.new ≡ new_op ops c.args.edit.now = subst (λ (x : ClustersModel). c.args.target.now.new ≡ new_op x.ops c.args.edit.now) (sym c.self.view_is) c.requires.target.new in
     let held : IfSome c.args.target.now.new (λ op. table.prepared ≡ Some op) = subst (λ (x : ClustersModel). IfSome c.args.target.now.new (λ op. x.prepared ≡ Some op)) (sym c.self.view_is) c.requires.prepared in

@@ -4,7 +4,7 @@ use Rattle.intervals.specs.declared.operation.Op.{Op}
 use Rattle.intervals.specs.Operation.{writes}
 use Rattle.intervals.specs.Edit.{new_op, edited}
 use Rattle.intervals.specs.Table.{TableModel, prepared_after}
-use Rattle.intervals.specs.Terms.{terms_of}
+use Rattle.intervals.specs.Terms.{terms_of, state_of}
 use Rattle.intervals.proofs.Accepted.{edit_accepted}
 use Rattle.zone_tree.specs.Digits.{binary_digits}
 use Rattle.zones.specs.Index.{AreMembers, HasPlacesOf, ReservesOnlyForMember}
@@ -70,7 +70,7 @@ change-requires-clause-prepared c =
     subst (λ (n : Option Op). IfSome n (λ op. c.prepared.result ≡ Some op)) (sym c.requires.new) (judged_prepared c.args.target.now.new c.prepared.result held)
 
 pub admit-requires-clause-accepted : goal.admit-requires-clause-accepted
-admit-requires-clause-accepted c = edit_accepted (terms_of c.self.inside.claim) c.self.inside.table.ops c.args.edit.now (asked (goal.at.admit-requires-clause-accepted c).After-prepared).accepted
+admit-requires-clause-accepted c = edit_accepted (state_of (terms_of c.self.inside.claim) c.self.inside.table.ops) c.args.edit.now (asked (goal.at.admit-requires-clause-accepted c).After-prepared).accepted
 
 pub admit-requires-clause-target : goal.admit-requires-clause-target
 admit-requires-clause-target c = (asked (goal.at.admit-requires-clause-target c).After-prepared).target_is
