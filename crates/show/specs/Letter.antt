@@ -1,9 +1,9 @@
 -- The letters of the operations that a picture is about.
-use Rattle.std.specs.Prelude.{◌+◌, ℕ, zero, suc, Bool, true, false, List, [], ◌∷◌, ◌++◌, Option, Some, None, codes, option_map}
+use Rattle.std.specs.Prelude.{◌+◌, ℕ, zero, suc, Bool, true, false, List, [], ◌∷◌, ◌++◌, Option, Some, None, codes, option_map, if◌then◌else◌}
 use Rattle.std.specs.List.{find}
 use Rattle.intervals.specs.declared.operation.Op.{Op}
 use Rattle.intervals.specs.declared.operation.OpId.{OpId}
-use Rattle.intervals.specs.Operation.{same_id}
+use Rattle.intervals.specs.Operation.{is_write, same_id}
 use Rattle.register_book.specs.declared.around.WritesAround.{WritesAround}
 use Rattle.register_book.specs.declared.fault.InRole.{InRole}
 use Rattle.register_book.specs.declared.fault.Role.{Role}
@@ -79,6 +79,19 @@ letters_of (Some witness) around = letters_in (roles_of witness) ++ around_lette
 -- the letter of an operation, or none
 abbrev pub letter_for : List Lettered → OpId → Option Letter
 letter_for letters id = option_map (λ (l : Lettered). l.letter) (find (λ (l : Lettered). same_id l.id id) letters)
+
+-- `w` for a write and `r` for a read
+abbrev pub short_act : Op → List ℕ
+short_act op = if is_write op then codes "w" else codes "r"
+
+-- an optional letter as it is printed, else the word of what the operation is
+abbrev pub letter_or_act : Option Letter → Op → List ℕ
+letter_or_act None op = short_act op
+letter_or_act (Some letter) op = word_of letter
+
+-- what is written of an operation where there is no room for its label: its letter, else `w` or `r`
+abbrev pub short_label : List Lettered → Op → List ℕ
+short_label letters op = letter_or_act (letter_for letters op.id) op
 
 -- whether an operation in this role is a read that is wrong by itself, without another
 abbrev pub is_wrong_role : Role → Bool

@@ -10,9 +10,7 @@ use std::alloc::AllocError;
 pub fn push_axis(text: &mut String, canvas: &Canvas) -> Result<(), AllocError> {
     let (edge, y) = (canvas.layout.right_edge(), canvas.bottom.saturating_add(4));
     push_numbers(text, "<path class=\"edge\" d=\"M0 @H@\"/>\n", &[y, edge])?;
-    for number in &canvas.layout.told {
-        push_moment(text, canvas, *number, true)?;
-    }
+    push_told(text, canvas)?;
     push_others(text, canvas)?;
     let many = canvas.layout.later();
     if many == 0 {
@@ -23,6 +21,19 @@ pub fn push_axis(text: &mut String, canvas: &Canvas) -> Result<(), AllocError> {
         "<text class=\"quiet\" x=\"@\" y=\"@\">@ ops →</text>\n",
         &[edge.saturating_add(4), y.saturating_add(14), many as u128],
     )
+}
+
+/// The moments that the caption speaks of, from left to right, but for one that has no room right of another.
+fn push_told(text: &mut String, canvas: &Canvas) -> Result<(), AllocError> {
+    let mut free = 0;
+    for number in &canvas.layout.told {
+        let (left, right) = room_of(&canvas.layout, *number);
+        if free <= left {
+            push_moment(text, canvas, *number, true)?;
+            free = right.saturating_add(6);
+        }
+    }
+    Ok(())
 }
 
 /// The moments that the caption does not speak of, from left to right.

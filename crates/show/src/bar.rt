@@ -1,10 +1,10 @@
 //! The bars of operations in a picture, and the line through those that have an order.
 
-use crate::canvas::{BAR, Canvas, lane_of, lane_top, wide};
+use crate::canvas::{BAR, Canvas, lane_of, lane_top, row_at, wide, window_of};
 use crate::colour::colour_of;
 use crate::filled::{Filling, push_filled, push_numbers};
-use crate::layout::Bar;
-use crate::letter::{is_wrong, letter_for};
+use crate::layout::{Bar, Layout, Window};
+use crate::letter::{is_wrong, letter_for, short_label};
 use crate::scene::Scene;
 use std::alloc::{AllocError, Global};
 
@@ -35,6 +35,7 @@ fn push_bar(text: &mut String, canvas: &Canvas, number: usize) -> Result<(), All
     } else {
         push_endless(text, &bar, y)?;
     }
+    push_bar_label(text, canvas, &bar, y)?;
     text.push_str("</g>\n")?;
     if is_wrong(&scene.letters, bar.op.id) {
         push_cross(text, bar.right.saturating_add(8), y.saturating_add(3))?;
@@ -81,8 +82,7 @@ fn push_whole(text: &mut String, bar: &Bar, y: u128) -> Result<(), AllocError> {
     } else {
         "<rect x=\"@\" y=\"@\" width=\"@\" height=\"@\" rx=\"7\"/>"
     };
-    push_numbers(text, form, &[x, y, width, BAR])?;
-    push_words(text, x.saturating_add(width / 2), y, "middle", bar.label)
+    push_numbers(text, form, &[x, y, width, BAR])
 }
 
 /// A bar without a right edge: that of a write fades, that of a read is dashed.
@@ -90,16 +90,67 @@ fn push_endless(text: &mut String, bar: &Bar, y: u128) -> Result<(), AllocError>
     let (x, right) = (bar.left, bar.right.saturating_sub(FADE).max(bar.left));
     if bar.op.is_write() {
         push_numbers(text, "<path d=\"M@ @H@v@H@\"/>", &[right, y, x, BAR, right])?;
-        push_fading(text, right, y)?;
+        push_fading(text, right, y)
     } else {
         let at = x.saturating_add(7);
         push_numbers(
             text,
             "<path d=\"M@ @H@a7 7 0 0 0 0 @H@\"/>",
             &[right, y, at, BAR, right],
-        )?;
+        )
     }
-    push_words(text, x.saturating_add(5), y, "start", bar.label)
+}
+
+/// The label of a bar, in the middle of what one row has of it, or at its beginning where the bar has no end; where no
+/// row has room for the label, what stands for it.
+fn push_bar_label(
+    text: &mut String,
+    canvas: &Canvas,
+    bar: &Bar,
+    y: u128,
+) -> Result<(), AllocError> {
+    let part = labelled_part(&canvas.layout, bar);
+    let label = if width_beside(bar.label) <= part.width() {
+        bar.label
+    } else {
+        short_label(&canvas.layout.scene.letters, bar.op)
+    };
+    if bar.is_finished {
+        let middle = part.from.saturating_add(part.width() / 2);
+        push_words(text, middle, y, "middle", label)
+    } else {
+        push_words(text, part.from.saturating_add(5), y, "start", label)
+    }
+}
+
+/// The part of a bar that one row has: the first with room for the label, else the widest.
+fn labelled_part(layout: &Layout, bar: &Bar) -> Window {
+    let mut widest = Window {
+        from: bar.left,
+        to: bar.left,
+    };
+    for row in row_at(layout, bar.left)..layout.starts.len() {
+        let window = window_of(layout, row);
+        let part = Window {
+            from: bar.left.max(window.from),
+            to: bar.right.min(window.to),
+        };
+        if width_beside(bar.label) <= part.width() {
+            return part;
+        }
+        if part.width() > widest.width() {
+            widest = part;
+        }
+        if bar.right <= window.to {
+            return widest;
+        }
+    }
+    widest
+}
+
+/// The width of a label, and of some room on both sides.
+fn width_beside(label: &str) -> u128 {
+    wide(label.len()).saturating_add(8)
 }
 
 fn push_fading(text: &mut String, right: u128, y: u128) -> Result<(), AllocError> {

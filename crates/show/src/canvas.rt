@@ -1,7 +1,7 @@
 //! Where the parts of an SVG picture are.
 
-use crate::layout::{Layout, earlier, layout_of, widest_name};
-use crate::measure::{Measure, digits_of};
+use crate::layout::{Layout, Window, earlier, layout_of, widest_name};
+use crate::measure::{Measure, digits_of, with_last_moment};
 use crate::scene::{Scene, Sketch};
 use crate::told::number_of;
 use crate::zone::{DrawnZone, conflict_in, zones_of};
@@ -30,13 +30,6 @@ pub struct Canvas<'s, 't> {
     pub top: u128,
     /// The bottom of the lanes within the strip.
     pub bottom: u128,
-}
-
-/// A part of the strip.
-#[derive(Clone, Copy)]
-pub struct Window {
-    pub from: u128,
-    pub to: u128,
 }
 
 /// The height of a lane.
@@ -88,7 +81,8 @@ pub fn canvas_of<'s, 't>(
     };
     let margin = margin_of(scene);
     let width = room_beside(width, margin);
-    let layout = layout_of(alloc, subject, scene, measure, width)?;
+    let measure = with_last_moment(measure, scene);
+    let layout = layout_of(alloc, subject, scene, &measure, width)?;
     let lanes = lanes_of(alloc, scene, &layout.lane_ends)?;
     let zones = match (sketch.extent, subject.kind) {
         (Extent::All, Kind::Atomic) => zones_of(alloc, &layout, subject.initial)?,
@@ -180,20 +174,29 @@ fn margin_of(scene: &Scene) -> u128 {
     wide(widest.max(earlier)).saturating_add(28)
 }
 
-/// The window of a row on the strip.
+/// The window of a row on the strip. It ends one unit left of the next, so that no label that ends with it is seen
+/// there.
 pub fn window_of(layout: &Layout, row: usize) -> Window {
     let from = match layout.starts.get(row) {
         Some(first) if row > 0 => layout.place_of(*first).saturating_sub(4),
         _ => 0,
     };
     let to = match layout.starts.get(row.saturating_add(1)) {
-        Some(next) => layout.place_of(*next).saturating_sub(3),
+        Some(next) => layout.place_of(*next).saturating_sub(5),
         None => layout.right_edge().saturating_add(tail_width(layout)),
     };
     Window {
         from,
         to: to.max(from),
     }
+}
+
+/// The row whose window has this place.
+pub fn row_at(layout: &Layout, place: u128) -> usize {
+    layout
+        .starts
+        .partition_point(|start| layout.place_of(*start).saturating_sub(4) <= place)
+        .saturating_sub(1)
 }
 
 /// The width for the number of operations left out after all.

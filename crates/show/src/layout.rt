@@ -29,6 +29,19 @@ pub struct Layout<'s, 't> {
     pub lane_ends: Vec<usize>,
 }
 
+/// A part of what is drawn, from one place up to another.
+#[derive(Clone, Copy)]
+pub struct Window {
+    pub from: u128,
+    pub to: u128,
+}
+
+impl Window {
+    pub fn width(self) -> u128 {
+        self.to.saturating_sub(self.from)
+    }
+}
+
 /// An operation as it is drawn, from its beginning to its end, or to the right edge where it has none.
 #[derive(Clone, Copy)]
 pub struct Bar<'s, 't> {

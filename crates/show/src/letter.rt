@@ -4,7 +4,7 @@ ghost use Rattle.std.specs.Prelude.{◌≡◌, ◌<◌, ◌++◌, ◌∷◌, [],
 ghost use Rattle.std.specs.List.{slice_get};
 ghost use Rattle.std.specs.Option.{option_map_or};
 ghost use Rattle.intervals.specs.Operation.{same_id};
-ghost use Rattle.show.specs.Letter.{around_letters, is_wrong_letter, is_wrong_role, letter_for, letters_by, letters_in, letters_of, over_letters, over_letter, role_word, word_of};
+ghost use Rattle.show.specs.Letter.{short_act, around_letters, is_wrong_letter, is_wrong_role, letter_for, letters_by, letters_in, letters_of, over_letters, over_letter, role_word, short_label, word_of};
 
 use intervals::{Op, OpId};
 use register_book::{InRole, Role, Witness, WritesAround};
@@ -153,6 +153,22 @@ pub fn letter_for(letters: &[Lettered], id: OpId) -> Option<Letter>
 {
     let found = letters.iter().find(|lettered| is_same_id(lettered.id, id))?;
     Some(found.letter)
+}
+
+/// What is written of an operation where there is no room for its label: its letter, else `w` or `r`.
+pub fn short_label(letters: &[Lettered], op: &Op) -> &'static str
+    ensures { result.now ≡ short_label letters.now op.now }
+{
+    match letter_for(letters, op.id) {
+        Some(letter) => letter.word(),
+        None => short_act(op),
+    }
+}
+
+fn short_act(op: &Op) -> &'static str
+    ensures { result.now ≡ short_act op.now }
+{
+    if op.is_write() { "w" } else { "r" }
 }
 
 /// Whether the operation is a read that is wrong by itself, without another.

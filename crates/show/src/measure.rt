@@ -55,6 +55,18 @@ fn step_to(scene: &Scene, measure: &Measure, number: usize) -> u32
     }
 }
 
+/// The measure with room for the moment of the last mark, and for a blank after it, left of the right edge.
+pub fn with_last_moment(measure: &Measure, scene: &Scene) -> Measure
+    ensures last { measure.now.last ≤ result.last }
+    ensures others { result ≡ record measure.now { last = result.last } }
+{
+    let last = match scene.marks.len().checked_sub(1) {
+        Some(number) => moment_width(scene, measure, number).max(measure.last),
+        None => measure.last,
+    };
+    Measure { last, ..*measure }
+}
+
 /// The distances that the labels need in their bars, and the moments that the caption speaks of between each other.
 pub fn wants_of(
     alloc: Global,

@@ -4,14 +4,13 @@ ghost use Rattle.std.specs.Prelude.{◌≡◌, ◌++◌, OnOk, string_bytes};
 ghost use Rattle.show.specs.Svg.{heading_text, spoken_text};
 
 use crate::canvas::{
-    Canvas, LANE, LINE, Window, ZONE, ZONE_ROW, canvas_of, lane_top, row_top, strip_height, wide,
-    window_of,
+    Canvas, LANE, LINE, ZONE, ZONE_ROW, canvas_of, lane_top, row_top, strip_height, wide, window_of,
 };
 use crate::caption::push_caption;
 use crate::colour::{Colour, caption_colours};
 use crate::escape::push_element;
 use crate::filled::{Filling, push_filled, push_numbers};
-use crate::layout::push_lane_name;
+use crate::layout::{Window, push_lane_name};
 use crate::scene::{Scene, Sketch};
 use crate::strip::push_strip;
 use crate::style::{Theme, push_style};
@@ -130,13 +129,9 @@ fn words_width(heading: &str, caption: &str) -> u128 {
 fn rows_width(canvas: &Canvas) -> u128 {
     let mut width: u128 = 0;
     for row in 0..canvas.layout.starts.len() {
-        width = width.max(window_width(&window_of(&canvas.layout, row)));
+        width = width.max(window_of(&canvas.layout, row).width());
     }
     width.saturating_add(canvas.margin).saturating_add(12)
-}
-
-fn window_width(window: &Window) -> u128 {
-    window.to.saturating_sub(window.from)
 }
 
 const SCALE: &str = "Left to right by the order of moments, not to scale.";
@@ -216,7 +211,7 @@ fn push_window(
     window: &Window,
     top: u128,
 ) -> Result<(), AllocError> {
-    let (width, height) = (window_width(window), strip_height(canvas));
+    let (width, height) = (window.width(), strip_height(canvas));
     push_numbers(
         text,
         "<svg x=\"@\" y=\"@\" width=\"@\" height=\"@\" viewBox=\"@ 0 @ @\">\n",

@@ -4,11 +4,12 @@ use crate::caption::push_caption;
 use crate::glyphs::{ASCII, DRAWN, Glyphs};
 use crate::label::push_value;
 use crate::layout::{
-    Bar, Layout, earlier, lane_name_width, layout_of, push_lane_name, widest_name, zone_name_width,
+    Bar, Layout, Window, earlier, lane_name_width, layout_of, push_lane_name, widest_name,
+    zone_name_width,
 };
-use crate::letter::{is_wrong, letter_for};
+use crate::letter::{is_wrong, letter_for, short_label};
 use crate::line::TextLine;
-use crate::measure::{Measure, digits_of, digits_of_moment};
+use crate::measure::{Measure, digits_of, digits_of_moment, with_last_moment};
 use crate::scene::{Scene, Sketch};
 use crate::subject::Subject;
 use crate::title::push_title;
@@ -76,7 +77,8 @@ fn push_drawing(
 ) -> Result<(), AllocError> {
     let margin = margin_of(scene);
     let width = room_beside(look.width, margin);
-    let layout = layout_of(alloc, subject, scene, &MEASURE, width)?;
+    let measure = with_last_moment(&MEASURE, scene);
+    let layout = layout_of(alloc, subject, scene, &measure, width)?;
     let conflict = conflict_in(alloc, &layout)?;
     let drawing = Drawing {
         layout,
@@ -169,7 +171,8 @@ fn tail_width(layout: &Layout) -> u128 {
     }
 }
 
-/// A line with the moments that the caption speaks of, and with where operations are left out.
+/// A line with the moments that the caption speaks of, and with where operations are left out. What is left out before
+/// the first mark of a row is at the end of the row above.
 fn new_line(alloc: Global, drawing: &Drawing, window: &Cells) -> Result<TextLine, AllocError> {
     let mut line = blank_line(alloc, window)?;
     put_folds_and_drops(&mut line, drawing, window);
@@ -179,6 +182,7 @@ fn new_line(alloc: Global, drawing: &Drawing, window: &Cells) -> Result<TextLine
 fn put_folds_and_drops(line: &mut TextLine, drawing: &Drawing, window: &Cells) {
     let layout = &drawing.layout;
     for number in window.first..window.end {
+        let number = number.saturating_add(1);
         if layout.left_out_before(number) > 0 {
             line.put(layout.middle_before(number), drawing.glyphs.fold);
         }
@@ -344,7 +348,7 @@ fn draw_lane(
         if bar.right < window.from {
             next = number.saturating_add(1);
         } else if bar.left < window.to {
-            draw_bar(line, drawing, &bar);
+            draw_bar(line, drawing, window, &bar);
         } else {
             return (next, number);
         }
@@ -358,23 +362,48 @@ fn bar_at<'s, 't>(layout: &Layout<'s, 't>, number: usize) -> Option<Bar<'s, 't>>
     layout.bar(seat.op)
 }
 
-fn draw_bar(line: &mut TextLine, drawing: &Drawing, bar: &Bar) {
+fn draw_bar(line: &mut TextLine, drawing: &Drawing, window: &Cells, bar: &Bar) {
     let scene = drawing.layout.scene;
+    let part = part_in(window, bar);
+    let label = label_within(scene, bar, part.width());
     if bar.is_finished {
         let is_told = letter_for(&scene.letters, bar.op.id).is_some();
         draw_whole(line, bar, is_told, drawing.glyphs);
+        let spare = part.width().saturating_sub(label.len() as u128);
+        line.put_text(part.from.saturating_add(spare / 2), label);
     } else {
         draw_endless(line, bar, drawing.glyphs);
+        line.put_text(part.from, label);
+        line.put(part.from.saturating_add(label.len() as u128), ' ');
     }
     if is_wrong(&scene.letters, bar.op.id) {
         line.put(bar.right.saturating_add(1), drawing.glyphs.cross);
     }
 }
 
-/// A finished bar, with its label in the middle.
+/// The cells of a bar within the window, without its ends.
+fn part_in(window: &Cells, bar: &Bar) -> Window {
+    Window {
+        from: bar.left.saturating_add(1).max(window.from),
+        to: bar.right.min(window.to),
+    }
+}
+
+/// The label of a bar, or what stands for it, whichever is no wider than this; else nothing.
+fn label_within<'s>(scene: &Scene, bar: &Bar<'s, '_>, width: u128) -> &'s str {
+    if bar.label.len() as u128 <= width {
+        return bar.label;
+    }
+    let short = short_label(&scene.letters, bar.op);
+    if short.len() as u128 <= width {
+        short
+    } else {
+        ""
+    }
+}
+
+/// A finished bar.
 fn draw_whole(line: &mut TextLine, bar: &Bar, is_told: bool, glyphs: &Glyphs) {
-    let inside = bar.right.saturating_sub(bar.left).saturating_sub(1);
-    let spare = inside.saturating_sub(bar.label.len() as u128);
     line.fill(
         bar.left,
         bar.right,
@@ -382,10 +411,6 @@ fn draw_whole(line: &mut TextLine, bar: &Bar, is_told: bool, glyphs: &Glyphs) {
     );
     line.put(bar.left, opening(bar));
     line.put(bar.right, if bar.op.is_write() { ']' } else { ')' });
-    line.put_text(
-        bar.left.saturating_add(1).saturating_add(spare / 2),
-        bar.label,
-    );
 }
 
 fn opening(bar: &Bar) -> char {
@@ -394,14 +419,8 @@ fn opening(bar: &Bar) -> char {
 
 /// An unfinished bar, which goes on to the right edge.
 fn draw_endless(line: &mut TextLine, bar: &Bar, glyphs: &Glyphs) {
-    let after = bar
-        .left
-        .saturating_add(1)
-        .saturating_add(bar.label.len() as u128);
     line.fill(bar.left, bar.right, glyphs.dots);
     line.put(bar.left, opening(bar));
-    line.put_text(bar.left.saturating_add(1), bar.label);
-    line.put(after, ' ');
 }
 
 /// The moments, first those that the caption speaks of, and the numbers of operations left out.
@@ -429,7 +448,7 @@ fn draw_axis(line: &mut TextLine, drawing: &Drawing, window: &Cells) {
         put_moment(line, layout, window, *number);
     }
     for number in window.first..window.end {
-        put_left_out(line, layout, number);
+        put_left_out(line, layout, window, number.saturating_add(1));
     }
     for number in window.first..window.end {
         put_moment(line, layout, window, number);
@@ -441,29 +460,42 @@ fn draw_axis(line: &mut TextLine, drawing: &Drawing, window: &Cells) {
     }
 }
 
-/// The moment of a mark, where there is room for it.
+/// The moment of a mark of this row, where there is room for it: from the mark on, or up to the end of the row.
 fn put_moment(line: &mut TextLine, layout: &Layout, window: &Cells, number: usize) {
-    if number >= layout.scene.marks.len() {
+    if number < window.first || number >= window.end || number >= layout.scene.marks.len() {
         return;
     }
     let moment = layout.scene.marks[number].moment.0;
-    let place = layout.place_of(number);
-    let end = place.saturating_add(digits_of_moment(moment) as u128);
-    if end <= window.to && line.is_blank(place.saturating_sub(1), end.saturating_add(1)) {
+    let wide = digits_of_moment(moment) as u128;
+    let place = layout.place_of(number).min(window.to.saturating_sub(wide));
+    if has_room(line, window, place, wide) {
         line.put_number(place, moment);
     }
 }
 
-/// How many operations are left out before a mark, if any are and nothing is in the way.
-fn put_left_out(line: &mut TextLine, layout: &Layout, number: usize) {
+/// Whether so many cells from a place on are in the window, blank, and between blanks.
+fn has_room(line: &TextLine, window: &Cells, place: u128, wide: u128) -> bool {
+    let end = place.saturating_add(wide);
+    window.from <= place
+        && end <= window.to
+        && line.is_blank(place.saturating_sub(1), end.saturating_add(1))
+}
+
+/// How many operations are left out before a mark, if any are: in the middle, or up to two cells right of it, where
+/// there is room.
+fn put_left_out(line: &mut TextLine, layout: &Layout, window: &Cells, number: usize) {
     let many = layout.left_out_before(number);
     if many == 0 {
         return;
     }
     let wide = (digits_of(many) as u128).saturating_add(1);
-    let place = layout.middle_before(number).saturating_sub(wide / 2);
-    if line.is_blank(place, place.saturating_add(wide)) {
-        line.put(place, '+');
-        line.put_number(place.saturating_add(1), many as u64);
+    let left = layout.middle_before(number).saturating_sub(wide / 2);
+    for shift in 0..3usize {
+        let place = left.saturating_add(shift as u128);
+        if has_room(line, window, place, wide) {
+            line.put(place, '+');
+            line.put_number(place.saturating_add(1), many as u64);
+            return;
+        }
     }
 }
