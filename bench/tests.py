@@ -8,7 +8,7 @@ TESTS = {
     "form_tests": ["edn_reader", "intervals", "jepsen_form", "pairing", "tower_file"],
     "judge_tests": ["intervals", "read_tree", "register_book", "safe_regular", "zone_tree", "zones"],
     "shard_tests": ["intervals", "register_book", "shards", "tower_file"],
-    "feeder_tests": ["feeders", "intervals", "jepsen_form", "logs", "shards", "tower_file"],
+    "feeder_tests": ["feeders", "intervals", "jepsen_form", "logs", "pairing", "shards", "tower_file"],
     "command_tests": ["command_parts", "commands", "feeders", "intervals", "jepsen_form", "report", "shards", "tower_file"],
 }
 

@@ -83,13 +83,33 @@ NOTES = [b'"n"', b'"\\"\\\\ \t"', b'"\xff\xfe"', b'"\xe2\x80\xa9\xf0\x9f\x98\x80
          b"\\\"", b"a/b\\c"]
 TAGS = [b"#op ", b"#a #b ", b"#j/x", b"#\xc3\xa9;x\n"]
 FILES = ["tower.edn", 'to"wer.edn', "to\\wer.edn", "t\u00f6wer.edn", "a b.edn", "\U0001f600.edn", "ta\tb.edn"]
-JUNK = [b"5", b'"text"', b"{}", b"{:process 0}", b"{:edit :withdraw}", b"{:process 0 :process 1}", b"{:ask a :ask a}",
-        b"{:process 0 :type :begin}", b"{:edit :move :of 0}", b"{:process 0 :type :info :f :cas}",
-        b"{:process 0 :type :invoke :f :write :value [NAME 1.5] :index 3 :time 3}", b"{:edit :amend :of -1}",
-        b"{:process 0 :type :invoke :f :write :value [NAME 1] :index -1 :time -1}", b"{:edit :amend :of 0 :begin nil}",
-        b"{:process 0 :type :invoke :f :write :value [nowhere 1] :index 3 :time 3}", b"{:ask nowhere}",
-        b"{:edit :claim :register nowhere :kind :safe}", b"{:edit :claim :register NAME :kind :linear}",
-        b"{:process :nemesis :type :info :f :kill}", b"#t {:process nil :type :ok :f :read}"]
+# Elements that are refused by their form, or skipped, and what can be read of them all the same: `register` is NAME, or
+# the tower's only one; `writes` is what it would have written; `of` the place that it edits; `answers` the process whose
+# invocation it answers; `claims` that it claims a kind.
+UNREAD = "unread"
+NOBODY = {"register": "only", "writes": [None]}
+JUNK = [(b"5", {}), (b'"text"', {}), (b"{}", NOBODY), (b"{:process 0}", NOBODY), (b"{:edit :withdraw}", {}),
+        (b"{:process 0 :process 1}", NOBODY), (b"{:ask a :ask a}", {}), (b"{:process 0 :type :begin}", NOBODY),
+        (b"{:edit :move :of 0}", {"of": 0}),
+        (b"{:process 0 :type :info :f :cas}", {"register": "only", "answers": 0}),
+        (b"{:process 0 :type :fail :f :cas :value [NAME [1 VALUE]]}", {"register": "NAME", "answers": 0}),
+        (b"{:process 0 :type :invoke :f :cas :value [NAME [1 VALUE]] :index 3 :time 3}",
+         {"register": "NAME", "writes": ["VALUE"]}),
+        (b"{:process 0 :type :ok :f :cas :value [NAME [1 VALUE]] :index 3 :time 3}",
+         {"register": "NAME", "writes": ["VALUE"], "answers": 0}),
+        (b"{:process 0 :type :invoke :f :cas :value [NAME [VALUE 1.5]] :index 3 :time 3}",
+         {"register": "NAME", "writes": [UNREAD]}),
+        (b"{:process 0 :type :ok :f :read :value [NAME 1.5] :index 3 :time 3}", {"register": "NAME", "answers": 0}),
+        (b"{:process 0 :type :invoke :f :write :value [NAME 1.5] :index 3 :time 3}",
+         {"register": "NAME", "writes": [UNREAD]}),
+        (b"{:edit :amend :of -1}", {}), (b"{:edit :amend :of 0 :value x}", {"of": 0, "writes": [UNREAD]}),
+        (b"{:process 0 :type :invoke :f :write :value [NAME VALUE] :index -1 :time -1}",
+         {"register": "NAME", "writes": ["VALUE"]}),
+        (b"{:edit :amend :of 0 :begin nil}", {"of": 0}),
+        (b"{:process 0 :type :invoke :f :write :value [nowhere 1] :index 3 :time 3}", {"writes": [1]}),
+        (b"{:ask nowhere}", {}), (b"{:edit :claim :register nowhere :kind :safe}", {"claims": True}),
+        (b"{:edit :claim :register NAME :kind :linear}", {"register": "NAME", "claims": True}),
+        (b"{:process :nemesis :type :info :f :kill}", {}), (b"#t {:process nil :type :ok :f :read}", {})]
 GAPS = [b"#_ {:a 1}\n", b"; a comment { \n", b",,,", b"#_#_ 1 2 "]
 BREAKS = [b"]", b"[1 2)", b"[" * 65, b"{:a}", b"[#t]"]
 TAILS = BREAKS + [b"{:process 0 :type", b'"text', b"#_", b"\\"]
@@ -234,8 +254,11 @@ class Trace:
         if self.registers and self.calm and dice < 0.22:
             dice = chance.choice([0.07, 0.5])
         if not self.registers or dice < 0.05:
-            name = chance.choice(self.registers).name if self.registers else b"nowhere"
-            self.add(chance.choice(JUNK).replace(b"NAME", name), what="none")
+            register = chance.choice(self.registers) if self.registers else None
+            value = chance.choice([register.current, register.past[-1], register.next_value()]) if register else None
+            text, gist = chance.choice(JUNK)
+            text = text.replace(b"NAME", register.name if register else b"nowhere")
+            self.add(text.replace(b"VALUE", value_text(chance, value)), what="none", gist=gist, register=register, value=value)
         elif dice < 0.1:
             register = chance.choice(self.registers)
             self.add(self.fields([(b"ask", register.name)]), what="ask", register=register)
@@ -445,15 +468,59 @@ class Held:
             {"value": self.register.initial, "id": "initial"}]
 
 
+def about_junk(run, feeder, item, waiting, invoked):
+    """What an element that its form refuses is about, by what can be read of it."""
+    gist = item.get("gist", {})
+    target = waiting.get(gist["answers"]) if "answers" in gist else gist["of"] if gist.get("of") in invoked else None
+    register = {"NAME": item.get("register"), "only": run.registers[0] if len(run.registers) == 1 else None}.get(
+        gist.get("register"))
+    number = register.number if register else invoked.get(target)
+    writes = [item["value"] if value == "VALUE" else value for value in gist.get("writes", [])]
+    return {"register": number, "writes": writes, "of": None if target is None else f"{feeder}:{target}",
+            "claims": gist.get("claims", False)}
+
+
+def about(run, feeder, code, item, waiting, invoked):
+    """What a refused element is about: its register, what it would have written, the operation that it answers or edits,
+    and whether it claims a kind."""
+    what = item["what"]
+    if what == "none":
+        return about_junk(run, feeder, item, waiting, invoked)
+    found = {"register": None, "writes": [], "of": None, "claims": what == "claim"}
+    if what in ("invoke", "claim"):
+        found["register"] = item["register"].number
+    if what in ("ok", "fail", "info") and item["process"] in waiting:
+        target = waiting[item["process"]]
+        found["of"], found["register"] = f"{feeder}:{target}", invoked[target]
+    if what in ("amend", "withdraw") and item["of"] in invoked:
+        found["of"], found["register"] = f"{feeder}:{item['of']}", invoked[item["of"]]
+    if what == "ok" and code[0] == "P":
+        found["register"] = item["register"].number
+    if what == "invoke" and item["f"] == "write" or what == "ok" and code[0] == "P" and item["f"] == "write":
+        found["writes"] = [item["value"]]
+    if what == "amend" and "value" in item["changes"]:
+        found["writes"] = [item["changes"]["value"]]
+    return found
+
+
+def touches(found, ops):
+    """Whether a refused element touches a failure that these operations show."""
+    return bool(ops) and (found["claims"] or UNREAD in found["writes"] or any(
+        op["id"] == found["of"] or op["value"] in found["writes"] for op in ops))
+
+
 def applied(run, refused, broken):
-    """Each register as it is at the end, by number, and what each refused element collides with, by its id."""
-    held, collisions = {register.number: Held(register) for register in run.registers}, {}
+    """Each register as it is at the end, by number; what each refused element collides with, by its id; and what each is
+    about."""
+    held, collisions, left_out = {register.number: Held(register) for register in run.registers}, {}, {}
     for feeder, trace in enumerate(run.traces):
         waiting, invoked = {}, {}
         for place, item in enumerate(trace.items):
             if feeder in broken and item["ends"] > broken[feeder]:
                 break
             code, what, text = refused.get(f"{feeder}:{place}", ""), item["what"], printed(item["text"])
+            if code:
+                left_out[f"{feeder}:{place}"] = about(run, feeder, code, item, waiting, invoked)
             if code[:1] in ("F", "P") or what in ("none", "ask"):
                 continue
             new, of = None, place
@@ -481,7 +548,7 @@ def applied(run, refused, broken):
                 del book.ops[of]
             elif new:
                 book.ops[of] = new
-    return held, collisions
+    return held, collisions, left_out
 
 
 SHOWN = {"wrong": ["read"], "unwritten": ["read"], "split": ["first", "second"], "early": ["read", "write"],

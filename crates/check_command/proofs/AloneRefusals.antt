@@ -67,11 +67,11 @@ refused_cases before step rest (x ∷ front) one left parts is =
     })
 
 what_is_noted : (place : ℕ) (doing : Doing) → list_any is_refused_line (lines_at place (what_of doing)) ≡ is_refusing doing
-what_is_noted place (refused code) = refl
+what_is_noted place (refused left_out) = refl
 what_is_noted place nothing = refl
 what_is_noted place (entered register edit number reply) = by_reply reply
   where
-    by_reply : (reply : Reply) → list_any is_refused_line (lines_at place (what_of_reply reply)) ≡ not (is_accepted reply)
+    by_reply : (reply : Reply) → list_any is_refused_line (lines_at place (what_of_reply register edit reply)) ≡ not (is_accepted reply)
     by_reply (Accepted holds) = refl
     by_reply (Refused refusal) = refl
 what_is_noted place (answered register answer) = refl

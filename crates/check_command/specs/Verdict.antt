@@ -5,7 +5,7 @@ use Rattle.intervals.specs.declared.claim.Kind.{Kind}
 use Rattle.intervals.specs.Terms.{RegisterState, unedited}
 use Rattle.intervals.specs.Kind.{Holds}
 use Rattle.intervals.specs.Refusal.{reply_to, standing}
-use Rattle.jepsen_form.specs.declared.fault.FormFault.{FormFault}
+use Rattle.jepsen_form.specs.declared.gist.RefusedForm.{RefusedForm}
 use Rattle.jepsen_form.specs.declared.item.Item.{Item}
 use Rattle.jepsen_form.specs.declared.item.MomentField.TheVariants.{Index}
 use Rattle.pairing.specs.declared.step.Step.TheVariants as steps
@@ -22,7 +22,7 @@ standing_after taken = standing (unedited alone_claim) (edits_among 0 taken)
 
 -- a step after these is refused: for its element's form, by the pairing, or by the register as it is then
 abbrev pub IsRefused : List StepResult → StepResult → Type 0
-IsRefused before (Err code) = Unit {0}
+IsRefused before (Err left_out) = Unit {0}
 IsRefused before (Ok None) = ⊥
 IsRefused before (Ok (Some (steps.Edit register edit))) = IsSome (reply_to (standing_after before) edit)
 IsRefused before (Ok (Some (steps.Ask register))) = ⊥
@@ -37,7 +37,7 @@ pub record HasRefused (taken : List StepResult) : Type 0 where
 
 -- what is said of the one register after these elements: its kind, its verdict, how many operations stand, and whether
 -- an element was refused
-pub record IsVerdict (items : List (Result Item FormFault)) (kind : Kind) (holds refused : Bool) (operations : ℕ) : Type 0 where
+pub record IsVerdict (items : List (Result Item RefusedForm)) (kind : Kind) (holds refused : Bool) (operations : ℕ) : Type 0 where
   pub kind_is : kind ≡ (standing_after (steps_of 0 items)).claim.kind
   pub verdict : IsTrue holds ↔ Holds (standing_after (steps_of 0 items))
   pub count : operations ≡ length (standing_after (steps_of 0 items)).ops
@@ -53,7 +53,7 @@ pub record IsAudited (input : List ℕ) (status : ℕ) (old new : Option (List �
   pub broken : Option Broken
   pub read : List ℕ
   pub is_read : IsReadOf (Some input) broken read
-  pub items : List (Result Item FormFault)
+  pub items : List (Result Item RefusedForm)
   pub are : AreItemsOfTrace alone_tower Index read broken items
   pub kind : Kind
   pub holds : Bool

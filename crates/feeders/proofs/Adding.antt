@@ -3,7 +3,7 @@ use Rattle.std.proofs.Common.{◌≤◌, ℕ, List, ◌++◌, length, Result, ap
 use Rattle.edn_reader.specs.Grammar.{ElementModel}
 use Rattle.edn_reader.specs.Fault.{AreElementsSoFar}
 use Rattle.edn_reader.specs.Splitting.{SplitterModel, StandsAfter}
-use Rattle.jepsen_form.specs.declared.fault.FormFault.{FormFault}
+use Rattle.jepsen_form.specs.declared.gist.RefusedForm.{RefusedForm}
 use Rattle.jepsen_form.specs.declared.item.Item.{Item}
 use Rattle.shards.specs.Pass.{PassModel}
 use Rattle.feeders.specs.declared.intake.Intake.{Intake}
@@ -16,10 +16,10 @@ use Rattle.feeders.specs.Progress.{HasDone}
 use Rattle.feeders.specs.Setting.{Setting}
 use Rattle.logs.specs.Steps.{steps_of}
 
-abbrev Before : Setting → List (Result Item FormFault) → List ElementModel → Intake → PassModel → Type 0
+abbrev Before : Setting → List (Result Item RefusedForm) → List ElementModel → Intake → PassModel → Type 0
 Before setting items waiting intake pass = (length waiting ≤ 1) × HasDone setting.plan setting.start pass intake.progress.log.lines.items (steps_of setting.start.feeder items)
 
-before : (pending : Pending) (setting : Setting) (items : List (Result Item FormFault)) (waiting : List ElementModel) (intake : Intake) (pass : PassModel) → IsPendingAs pending setting items waiting intake pass
+before : (pending : Pending) (setting : Setting) (items : List (Result Item RefusedForm)) (waiting : List ElementModel) (intake : Intake) (pass : PassModel) → IsPendingAs pending setting items waiting intake pass
     → Before setting items waiting intake pass
 before Nothing setting items waiting intake pass is = (omega (arith, ap length is.0), is.1.done)
 before (Whole start) setting items waiting intake pass is = (omega (arith, ap length is.1), is.3.done)

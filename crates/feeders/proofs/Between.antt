@@ -1,7 +1,7 @@
 -- A feeder goes on with a pass that has the entries that it had.
 use Rattle.std.proofs.Common.{◌≡◌, ℕ, List, Result, ◌∙◌}
 use Rattle.tower_file.specs.Contents.{TowerModel}
-use Rattle.jepsen_form.specs.declared.fault.FormFault.{FormFault}
+use Rattle.jepsen_form.specs.declared.gist.RefusedForm.{RefusedForm}
 use Rattle.jepsen_form.specs.declared.item.Item.{Item}
 use Rattle.jepsen_form.specs.declared.item.MomentField.{MomentField}
 use Rattle.edn_reader.specs.Grammar.{ElementModel}
@@ -30,14 +30,14 @@ module _ (plan : Plan) (start : Start) (tower : TowerModel) (chosen : MomentFiel
   done : {lines : List Line} {steps : List StepResult} → HasDone plan start old lines steps → HasDone plan start new lines steps
   done has = record { doings = has.doings; done = has.done; feeder_is = feeder ∙ has.feeder_is; of_plan = of has.of_plan; own = λ at lt. same at ∙ has.own at lt }
 
-  following : {items : List (Result Item FormFault)} {progress : Progress} → IsAt plan start items progress old → IsAt plan start items progress new
+  following : {items : List (Result Item RefusedForm)} {progress : Progress} → IsAt plan start items progress old → IsAt plan start items progress new
   following is = record { place = is.place; feeder_is = is.feeder_is; pairing = is.pairing; done = done is.done }
 
-  paired : {items : List (Result Item FormFault)} {item : Result Item FormFault} {step : StepResult} {progress : Progress} → IsPaired plan start items item step progress old
+  paired : {items : List (Result Item RefusedForm)} {item : Result Item RefusedForm} {step : StepResult} {progress : Progress} → IsPaired plan start items item step progress old
       → IsPaired plan start items item step progress new
   paired is = record { place = is.place; feeder_is = is.feeder_is; pairing = is.pairing; step_is = is.step_is; done = done is.done }
 
-  waits : (pending : Pending) (items : List (Result Item FormFault)) (waiting : List ElementModel) (intake : Intake) → IsPendingAs pending setting items waiting intake old
+  waits : (pending : Pending) (items : List (Result Item RefusedForm)) (waiting : List ElementModel) (intake : Intake) → IsPendingAs pending setting items waiting intake old
       → IsPendingAs pending setting items waiting intake new
   waits Nothing items waiting intake is = (is.0, following is.1)
   waits (Whole place) items waiting intake is = (is.0, is.1, is.2, following is.3)

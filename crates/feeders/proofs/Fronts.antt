@@ -6,7 +6,7 @@ use Rattle.std.specs.Prelude.{IfSome}
 use Rattle.std.proofs.lemmas.List.{drop-take, take_all}
 use Rattle.edn_reader.specs.Grammar.{ElementModel}
 use Rattle.edn_reader.specs.Splitting.{IsLast, SplitterModel, keep}
-use Rattle.jepsen_form.specs.declared.fault.FormFault.{FormFault}
+use Rattle.jepsen_form.specs.declared.gist.RefusedForm.{RefusedForm}
 use Rattle.jepsen_form.specs.declared.item.Item.{Item}
 use Rattle.jepsen_form.specs.declared.item.MomentField.{MomentField}
 use Rattle.tower_file.specs.Contents.{TowerModel}
@@ -36,7 +36,7 @@ front_text kept front start end is low =
     ∙ sym (take_all (length front - (start - end)) (drop (start - end) front) (omega (arith, length-drop (start - end) front)))
 
 -- an item that was read with the element is that of its bytes, after what is kept
-pub item_of_front : (tower : TowerModel) (chosen : MomentField) (splitter : SplitterModel) (item : Option (Result Item FormFault)) (kept : TailBuffer) (front : List ℕ) (start end : ℕ)
+pub item_of_front : (tower : TowerModel) (chosen : MomentField) (splitter : SplitterModel) (item : Option (Result Item RefusedForm)) (kept : TailBuffer) (front : List ℕ) (start end : ℕ)
     → end ≡ kept.from + length kept.bytes.items → splitter.ended.start ≡ start → IfSome item (λ _. end ≤ splitter.ended.start)
     → IsItemOfLast tower chosen splitter (drop (splitter.ended.start - end) front) item
     → IsItemOfLast tower chosen splitter (drop (start - kept.from) (kept.bytes.items ++ front)) item
@@ -58,7 +58,7 @@ page_of_front (Some text) kept piece used start end is high on =
     ∙ sym (front_after kept (take used piece) start end is on.0)
 
 -- the element waits, and its bytes are kept
-pub whole_waits : (setting : Setting) (items : List (Result Item FormFault)) (pass : PassModel) (old new : Intake) (start : ℕ) (text : List ℕ) (last : ElementModel)
+pub whole_waits : (setting : Setting) (items : List (Result Item RefusedForm)) (pass : PassModel) (old new : Intake) (start : ℕ) (text : List ℕ) (last : ElementModel)
     → IsLast old.splitter last → last.text ≡ text → IsAt setting.plan setting.start items old.progress pass
     → new.pending ≡ Whole start → new.splitter ≡ old.splitter → new.progress ≡ old.progress → drop (start - new.kept.from) new.kept.bytes.items ≡ text
     → IsPending setting items (last ∷ []) new pass

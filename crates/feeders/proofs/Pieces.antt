@@ -1,8 +1,8 @@
 -- A trace that comes in chunks: one element more, what waits, and where the trace breaks.
-use Rattle.std.proofs.Common.{◌≡◌, ◌⊎◌, inl, inr, ℕ, ◌+◌, ◌-◌, ◌≤◌, ◌<◌, ◌^◌, List, [], ◌∷◌, ◌++◌, length, take, drop, Option, Some, None, Ok, refl, sym, ap, subst, ◌∙◌, arith, append_assoc, append-nil, length-append, length-drop}
+use Rattle.std.proofs.Common.{◌≡◌, ◌⊎◌, inl, inr, ℕ, ◌+◌, ◌-◌, ◌≤◌, ◌<◌, ◌^◌, List, [], ◌∷◌, ◌++◌, length, take, drop, Option, Some, None, Ok, refl, sym, ap, subst, ◌∙◌, arith, append_assoc, append-nil, length-drop}
 use Rattle.std.specs.List.{AllByRecursion, AllZip}
 use Rattle.std.proofs.Math.Seq.{take-length, drop-length, take-add, take-append-add}
-use Rattle.std.proofs.lemmas.List.{drop-take, length-take-le, take-append-drop}
+use Rattle.std.proofs.lemmas.List.{drop-take, take-append-drop}
 use Rattle.edn_reader.specs.declared.fault.EdnFault.{EdnFault}
 use Rattle.edn_reader.specs.declared.fault.EdnFault.TheVariants as edn
 use Rattle.edn_reader.specs.Grammar.{ElementModel, IsElement}

@@ -9,13 +9,16 @@ use Rattle.edn_reader.specs.Prefixes.{is_run_kind, with_bytes, GoesOnAs, ArePref
 use Rattle.edn_reader.proofs.Prefixes.{prefix_same}
 use Rattle.intervals.specs.declared.operation.Moment.{Moment}
 use Rattle.intervals.specs.declared.operation.RegId.{RegId}
+use Rattle.intervals.specs.declared.operation.Value.{Value}
 use Rattle.intervals.specs.declared.edit.Change.{Change}
 use Rattle.intervals.specs.declared.edit.Edit.{Edit}
 use Rattle.intervals.specs.declared.edit.Edit.TheVariants as edits
 use Rattle.intervals.specs.declared.edit.Lent.{Lent}
 use Rattle.intervals.specs.declared.edit.Lent.TheVariants.{Answer, Amendment}
 use Rattle.tower_file.specs.Contents.{TowerModel}
-use Rattle.jepsen_form.specs.declared.fault.FormFault.{FormFault}
+use Rattle.jepsen_form.specs.declared.gist.Gist.{Gist}
+use Rattle.jepsen_form.specs.declared.gist.RefusedForm.{RefusedForm}
+use Rattle.jepsen_form.specs.declared.gist.Written.{Written}
 use Rattle.jepsen_form.specs.declared.fault.FormFault.TheVariants.{NotAMap}
 use Rattle.jepsen_form.specs.declared.item.Event.{Event as AnEvent}
 use Rattle.jepsen_form.specs.declared.item.Item.{Item}
@@ -23,18 +26,21 @@ use Rattle.jepsen_form.specs.declared.item.Item.TheVariants.{Event, Amend, Withd
 use Rattle.jepsen_form.specs.declared.item.MomentField.{MomentField}
 use Rattle.jepsen_form.specs.declared.item.Stage.{Stage}
 use Rattle.jepsen_form.specs.declared.item.Stage.TheVariants as stages
-use Rattle.jepsen_form.specs.Item.{IsItem, no_map, of_map, text_at, lent_at, lying_at}
+use Rattle.jepsen_form.specs.Item.{no_gist, with_gist, IsItem, no_map, of_map, text_at, lent_at, lying_at}
+use Rattle.pairing.specs.declared.about.About.{About}
 use Rattle.pairing.specs.declared.fault.PairFault.{PairFault}
 use Rattle.pairing.specs.declared.invocation.Invocation.{Invocation}
 use Rattle.pairing.specs.declared.step.Step.{Step}
+use Rattle.pairing.specs.About.{written_by_lent, gist_of_item, target_beside, target_of, about_by, about_gist}
 use Rattle.pairing.specs.Accepted.{Placed, is_event_of, invocation, last_of, unanswered_of, register_of, event_fault, edit_fault, fault_of, with_accepted, accepted}
 use Rattle.pairing.specs.Invocation.{invocation_by, invocation_of}
 use Rattle.pairing.specs.Step.{id_of, invoke_step, ok_step, event_step, edit_step, given_by, unless, step_of}
 use Rattle.shards.specs.Plain.{PlainLent, PlainEdit, amend, plain_lent, plain_edit}
 use Rattle.logs.specs.declared.log.Broken.{Broken}
+use Rattle.logs.specs.declared.log.Code.TheVariants.{Form}
 use Rattle.logs.specs.Broken.{AreElements}
 use Rattle.feeders.specs.Readers.{broke_reading}
-use Rattle.logs.specs.Steps.{AreItemsOfTrace, StepResult, placed, placed_from, by_pairing, step_after, steps_after, steps_of}
+use Rattle.logs.specs.Steps.{AreItemsOfTrace, StepResult, placed, placed_from, about_after, by_pairing, step_after, steps_after, steps_of}
 use Rattle.feeders.specs.Prefixes.{PlainTaken, edit, plain_step, plain_taken, plain_steps}
 
 -- ---- texts in one place of memory
@@ -57,14 +63,14 @@ item_here (Claim register kind) = Claim register kind
 item_here (Ask register) = Ask register
 item_here Skipped = Skipped
 
-abbrev answer_here : Result Item FormFault → Result Item FormFault
+abbrev answer_here : Result Item RefusedForm → Result Item RefusedForm
 answer_here (Err fault) = Err fault
 answer_here (Ok item) = Ok (item_here item)
 
 abbrev placed_here : Placed → Placed
 placed_here one = record { place = one.place; item = item_here one.item }
 
-lying_here : (answer : Result Item FormFault) → lying_at here answer ≡ answer_here answer
+lying_here : (answer : Result Item RefusedForm) → lying_at here answer ≡ answer_here answer
 lying_here (Err fault) = refl
 lying_here (Ok (Event event)) = refl
 lying_here (Ok (Amend of change)) = refl
@@ -167,7 +173,7 @@ accepted_from before (one ∷ items) = ap (λ (xs : List Placed). fold with_acce
 accepted_here : (items : List Placed) → accepted (map placed_here items) ≡ map placed_here (accepted items)
 accepted_here items = accepted_from [] items
 
-placed_from_here : (place : ℕ) (items : List (Result Item FormFault)) → placed_from place (map answer_here items) ≡ map placed_here (placed_from place items)
+placed_from_here : (place : ℕ) (items : List (Result Item RefusedForm)) → placed_from place (map answer_here items) ≡ map placed_here (placed_from place items)
 placed_from_here place [] = refl
 placed_from_here place (Err fault ∷ items) = placed_from_here (place + 1) items
 placed_from_here place (Ok item ∷ items) = ap (λ (xs : List Placed). record { place = place; item = item_here item } ∷ xs) (placed_from_here (place + 1) items)
@@ -216,85 +222,120 @@ same_given feeder all place (Claim register kind) = refl
 same_given feeder all place (Ask register) = refl
 same_given feeder all place Skipped = refl
 
-same_unless : (fault : Option PairFault) (first second : Option Step) → option_map plain_step first ≡ option_map plain_step second
-    → plain_taken (by_pairing (unless fault first)) ≡ plain_taken (by_pairing (unless fault second))
-same_unless None first second e = ap Ok e
-same_unless (Some fault) first second e = refl
+same_unless : (about : About) (fault : Option PairFault) (first second : Option Step) → option_map plain_step first ≡ option_map plain_step second
+    → plain_taken (by_pairing about (unless fault first)) ≡ plain_taken (by_pairing about (unless fault second))
+same_unless about None first second e = ap Ok e
+same_unless about (Some fault) first second e = refl
 
-same_step : (feeder : ℕ) (all : List Placed) (place : ℕ) (item : Item)
-    → plain_taken (by_pairing (step_of feeder (map placed_here all) place (item_here item))) ≡ plain_taken (by_pairing (step_of feeder all place item))
-same_step feeder all place item =
-    ap (λ (fault : Option PairFault). plain_taken (by_pairing (unless fault (given_by feeder (map placed_here all) place (item_here item))))) (same_fault all item)
-    ∙ same_unless (fault_of all item) (given_by feeder (map placed_here all) place (item_here item)) (given_by feeder all place item) (same_given feeder all place item)
+same_step : (about : About) (feeder : ℕ) (all : List Placed) (place : ℕ) (item : Item)
+    → plain_taken (by_pairing about (step_of feeder (map placed_here all) place (item_here item))) ≡ plain_taken (by_pairing about (step_of feeder all place item))
+same_step about feeder all place item =
+    ap (λ (fault : Option PairFault). plain_taken (by_pairing about (unless fault (given_by feeder (map placed_here all) place (item_here item))))) (same_fault all item)
+    ∙ same_unless about (fault_of all item) (given_by feeder (map placed_here all) place (item_here item)) (given_by feeder all place item) (same_given feeder all place item)
 
-same_after : (feeder : ℕ) (before : List (Result Item FormFault)) (item : Result Item FormFault)
+-- ---- what a refused element is about, wherever texts lie
+
+same_for : {A B : Type 0} (f g : A → Option B) → ((x : A) → f x ≡ g x) → (o : Option A) → option_and_then f o ≡ option_and_then g o
+same_for f g each None = refl
+same_for f g each (Some x) = each x
+
+same_target : (all : List Placed) (gist : Gist) → target_of (map placed_here all) gist ≡ target_of all gist
+same_target all gist =
+    ap (λ (o : Option Invocation). target_beside o gist.of (option_and_then (register_of (map placed_here all)) gist.of))
+    (same_for (unanswered_of (map placed_here all)) (unanswered_of all) (same_unanswered all) gist.answers)
+    ∙ ap (λ (o : Option RegId). target_beside (option_and_then (unanswered_of all) gist.answers) gist.of o)
+    (same_for (register_of (map placed_here all)) (register_of all) (same_register all) gist.of)
+
+same_about : (feeder : ℕ) (before : List (Result Item RefusedForm)) (gist : Gist) → about_after feeder (map answer_here before) gist ≡ about_after feeder before gist
+same_about feeder before gist =
+    ap (λ (xs : List Placed). about_gist feeder (accepted xs) gist) (placed_from_here 0 before)
+    ∙ ap (λ (xs : List Placed). about_gist feeder xs gist) (accepted_here (placed before))
+    ∙ ap (about_by feeder gist) (same_target (accepted (placed before)) gist)
+
+same_written : (lent : Lent) (value : Option Value) → written_by_lent (lent_at here lent) value ≡ written_by_lent lent value
+same_written (Answer text) value = refl
+same_written (Amendment text) None = refl
+same_written (Amendment text) (Some value) = refl
+
+same_gist : (item : Item) → gist_of_item (item_here item) ≡ gist_of_item item
+same_gist (Event event) = refl
+same_gist (Amend of change) = ap (λ (written : Written). record { answers = None; of = Some of; register = None; written = written; claims = false }) (same_written change.lent change.value)
+same_gist (Withdraw of) = refl
+same_gist (Claim register kind) = refl
+same_gist (Ask register) = refl
+same_gist Skipped = refl
+
+same_after : (feeder : ℕ) (before : List (Result Item RefusedForm)) (item : Result Item RefusedForm)
     → plain_taken (step_after feeder (map answer_here before) (answer_here item)) ≡ plain_taken (step_after feeder before item)
-same_after feeder before (Err fault) = refl
+same_after feeder before (Err refused) = ap (λ (about : About). Err (record { code = Form refused.fault; about = about })) (same_about feeder before refused.gist)
 same_after feeder before (Ok item) =
     let count = length (map answer_here before) in
-    ap (λ (xs : List Placed). plain_taken (by_pairing (step_of feeder (accepted xs) count (item_here item)))) (placed_from_here 0 before)
-    ∙ ap (λ (xs : List Placed). plain_taken (by_pairing (step_of feeder xs count (item_here item)))) (accepted_here (placed before))
-    ∙ ap (λ (n : ℕ). plain_taken (by_pairing (step_of feeder (map placed_here (accepted (placed before))) n (item_here item)))) (length-map before answer_here)
-    ∙ same_step feeder (accepted (placed before)) (length before) item
+    let about = about_after feeder before (gist_of_item item) in
+    ap (λ (about : About). plain_taken (by_pairing about (step_of feeder (accepted (placed (map answer_here before))) count (item_here item))))
+    (same_about feeder before (gist_of_item (item_here item)) ∙ ap (about_after feeder before) (same_gist item))
+    ∙ ap (λ (xs : List Placed). plain_taken (by_pairing about (step_of feeder (accepted xs) count (item_here item)))) (placed_from_here 0 before)
+    ∙ ap (λ (xs : List Placed). plain_taken (by_pairing about (step_of feeder xs count (item_here item)))) (accepted_here (placed before))
+    ∙ ap (λ (n : ℕ). plain_taken (by_pairing about (step_of feeder (map placed_here (accepted (placed before))) n (item_here item)))) (length-map before answer_here)
+    ∙ same_step about feeder (accepted (placed before)) (length before) item
 
-same_steps : (feeder : ℕ) (before items : List (Result Item FormFault))
+same_steps : (feeder : ℕ) (before items : List (Result Item RefusedForm))
     → map plain_taken (steps_after feeder (map answer_here before) (map answer_here items)) ≡ map plain_taken (steps_after feeder before items)
 same_steps feeder before [] = refl
 same_steps feeder before (item ∷ items) =
     ap (λ (step : PlainTaken). step ∷ map plain_taken (steps_after feeder (map answer_here before ++ answer_here item ∷ []) (map answer_here items))) (same_after feeder before item)
-    ∙ ap (λ (xs : List (Result Item FormFault)). plain_taken (step_after feeder before item) ∷ map plain_taken (steps_after feeder xs (map answer_here items))) (sym (map-append answer_here before (item ∷ [])))
+    ∙ ap (λ (xs : List (Result Item RefusedForm)). plain_taken (step_after feeder before item) ∷ map plain_taken (steps_after feeder xs (map answer_here items))) (sym (map-append answer_here before (item ∷ [])))
     ∙ ap (λ (rest : List PlainTaken). plain_taken (step_after feeder before item) ∷ rest) (same_steps feeder (before ++ item ∷ []) items)
 
 -- ---- the items of a prefix of a trace
 
 -- an element has one item, wherever its text lies
 abbrev pub OneItem : Type 0
-OneItem = (tower : TowerModel) (chosen : MomentField) (piece : ElementModel) (first second : Result Item FormFault) (place : ℕ × ℕ) → IsItem tower chosen piece first → IsItem tower chosen piece second
+OneItem = (tower : TowerModel) (chosen : MomentField) (piece : ElementModel) (first second : Result Item RefusedForm) (place : ℕ × ℕ) → IsItem tower chosen piece first → IsItem tower chosen piece second
     → lying_at place first ≡ lying_at place second
 
 -- an element whose core is a run is no map
-not_a_map : (tower : TowerModel) (chosen : MomentField) (piece : ElementModel) (answer : Result Item FormFault) → is_run_kind piece.core.kind ≡ true → IsItem tower chosen piece answer → answer ≡ Err NotAMap
+not_a_map : (tower : TowerModel) (chosen : MomentField) (piece : ElementModel) (answer : Result Item RefusedForm) → is_run_kind piece.core.kind ≡ true → IsItem tower chosen piece answer → answer ≡ with_gist no_gist (Err NotAMap)
 not_a_map tower chosen piece answer is (no_map none) = refl
-not_a_map tower chosen piece answer is (of_map pairs said text has says same) = let both : false ≡ true = sym (ap is_run_kind has.kind) ∙ is in absurd cc
+not_a_map tower chosen piece answer is (of_map pairs said inner text has says within same) = let both : false ≡ true = sym (ap is_run_kind has.kind) ∙ is in absurd cc
 
-same_answer : OneItem → (tower : TowerModel) (chosen : MomentField) (piece other : ElementModel) (first second : Result Item FormFault) → GoesOnAs piece other → IsItem tower chosen piece first → IsItem tower chosen other second
+same_answer : OneItem → (tower : TowerModel) (chosen : MomentField) (piece other : ElementModel) (first second : Result Item RefusedForm) → GoesOnAs piece other → IsItem tower chosen piece first → IsItem tower chosen other second
     → answer_here first ≡ answer_here second
 same_answer one tower chosen piece other first second (inl same) is also =
     sym (lying_here first) ∙ one tower chosen other first second here (subst (λ (x : ElementModel). IsItem tower chosen x first) same is) also ∙ lying_here second
 same_answer one tower chosen piece other first second (inr (run, added, longer)) is also =
     ap answer_here (not_a_map tower chosen piece first run is ∙ sym (not_a_map tower chosen (with_bytes piece added) second run (subst (λ (x : ElementModel). IsItem tower chosen x second) longer also)))
 
-first_items : OneItem → (tower : TowerModel) (chosen : MomentField) (pieces all : List ElementModel) (items others : List (Result Item FormFault)) → ArePrefix pieces all → AllZip (IsItem tower chosen) pieces items
-    → AllZip (IsItem tower chosen) all others → (rest : List (Result Item FormFault)) × (map answer_here others ≡ map answer_here items ++ rest)
+first_items : OneItem → (tower : TowerModel) (chosen : MomentField) (pieces all : List ElementModel) (items others : List (Result Item RefusedForm)) → ArePrefix pieces all → AllZip (IsItem tower chosen) pieces items
+    → AllZip (IsItem tower chosen) all others → (rest : List (Result Item RefusedForm)) × (map answer_here others ≡ map answer_here items ++ rest)
 first_items one tower chosen [] all [] others prefix read also = (map answer_here others, refl)
 first_items one tower chosen [] all (item ∷ items) others prefix read also = absurd read
 first_items one tower chosen (piece ∷ pieces) all [] others prefix read also = absurd read
 first_items one tower chosen (piece ∷ pieces) [] (item ∷ items) others prefix read also = absurd prefix
 first_items one tower chosen (piece ∷ pieces) (other ∷ all) (item ∷ items) [] prefix read also = absurd also
 first_items one tower chosen (piece ∷ []) (other ∷ all) (item ∷ []) (answer ∷ others) prefix read also =
-    (map answer_here others, ap (λ (x : Result Item FormFault). x ∷ map answer_here others) (sym (same_answer one tower chosen piece other item answer prefix read.0 also.0)))
+    (map answer_here others, ap (λ (x : Result Item RefusedForm). x ∷ map answer_here others) (sym (same_answer one tower chosen piece other item answer prefix read.0 also.0)))
 first_items one tower chosen (piece ∷ []) (other ∷ all) (item ∷ second ∷ items) (answer ∷ others) prefix read also = absurd read.1
 first_items one tower chosen (piece ∷ second ∷ pieces) (other ∷ all) (item ∷ items) (answer ∷ others) prefix read also =
     let rest = first_items one tower chosen (second ∷ pieces) all items others prefix.1 read.1 also.1 in (
       rest.0,
-      ap (λ (x : Result Item FormFault). x ∷ map answer_here others) (sym (same_answer one tower chosen piece other item answer (inl prefix.0) read.0 also.0))
-          ∙ ap (λ (xs : List (Result Item FormFault)). answer_here item ∷ xs) rest.1,
+      ap (λ (x : Result Item RefusedForm). x ∷ map answer_here others) (sym (same_answer one tower chosen piece other item answer (inl prefix.0) read.0 also.0))
+          ∙ ap (λ (xs : List (Result Item RefusedForm)). answer_here item ∷ xs) rest.1,
     )
 
 -- ---- the steps of a prefix of a trace
 
-steps_append : (feeder : ℕ) (before xs ys : List (Result Item FormFault)) → steps_after feeder before (xs ++ ys) ≡ steps_after feeder before xs ++ steps_after feeder (before ++ xs) ys
-steps_append feeder before [] ys = ap (λ (all : List (Result Item FormFault)). steps_after feeder all ys) (sym (append-nil before))
+steps_append : (feeder : ℕ) (before xs ys : List (Result Item RefusedForm)) → steps_after feeder before (xs ++ ys) ≡ steps_after feeder before xs ++ steps_after feeder (before ++ xs) ys
+steps_append feeder before [] ys = ap (λ (all : List (Result Item RefusedForm)). steps_after feeder all ys) (sym (append-nil before))
 steps_append feeder before (x ∷ xs) ys =
     ap (λ (rest : List StepResult). step_after feeder before x ∷ rest) (steps_append feeder (before ++ x ∷ []) xs ys)
-    ∙ ap (λ (all : List (Result Item FormFault)). (step_after feeder before x ∷ steps_after feeder (before ++ x ∷ []) xs) ++ steps_after feeder all ys) (append_assoc before (x ∷ []) xs)
+    ∙ ap (λ (all : List (Result Item RefusedForm)). (step_after feeder before x ∷ steps_after feeder (before ++ x ∷ []) xs) ++ steps_after feeder all ys) (append_assoc before (x ∷ []) xs)
 
-first_steps : (feeder : ℕ) (items others rest : List (Result Item FormFault)) → map answer_here others ≡ map answer_here items ++ rest
+first_steps : (feeder : ℕ) (items others rest : List (Result Item RefusedForm)) → map answer_here others ≡ map answer_here items ++ rest
     → (later : List PlainTaken) × (plain_steps feeder others ≡ plain_steps feeder items ++ later)
 first_steps feeder items others rest e =
     let later = steps_after feeder (map answer_here items) rest in (
       map plain_taken later,
-      sym (same_steps feeder [] others) ∙ ap (λ (xs : List (Result Item FormFault)). map plain_taken (steps_of feeder xs)) e
+      sym (same_steps feeder [] others) ∙ ap (λ (xs : List (Result Item RefusedForm)). map plain_taken (steps_of feeder xs)) e
           ∙ ap (map plain_taken) (steps_append feeder [] (map answer_here items) rest) ∙ map-append plain_taken (steps_of feeder (map answer_here items)) later
           ∙ ap (λ (xs : List PlainTaken). xs ++ map plain_taken later) (same_steps feeder [] items),
     )
@@ -316,7 +357,7 @@ is_prefix law bytes more (Some broken) pieces all (inl by_text) also = law.befor
 is_prefix law bytes more (Some broken) pieces all (inr reading) also =
     let begins = law.so_far bytes more pieces all reading.3 also in subst (ArePrefix pieces) (sym begins.1) (prefix_same pieces begins.0)
 
-pub prefix_of_steps : OneItem → OfPrefixes → (tower : TowerModel) (chosen : MomentField) (feeder : ℕ) (bytes more : List ℕ) (broken later : Option Broken) (items all : List (Result Item FormFault))
+pub prefix_of_steps : OneItem → OfPrefixes → (tower : TowerModel) (chosen : MomentField) (feeder : ℕ) (bytes more : List ℕ) (broken later : Option Broken) (items all : List (Result Item RefusedForm))
     → AreItemsOfTrace tower chosen bytes broken items → AreItemsOfTrace tower chosen (bytes ++ more) later all → broke_reading later ≡ false
     → (rest : List PlainTaken) × (plain_steps feeder all ≡ plain_steps feeder items ++ rest)
 prefix_of_steps one law tower chosen feeder bytes more broken later items all are also e =

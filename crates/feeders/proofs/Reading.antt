@@ -6,7 +6,7 @@ use Rattle.edn_reader.specs.declared.fault.EdnFault.TheVariants as edn
 use Rattle.edn_reader.specs.Grammar.{ElementModel}
 use Rattle.edn_reader.specs.Text.{IsFront}
 use Rattle.edn_reader.specs.Fault.{IsMemory, FaultOf, AreElementsBefore}
-use Rattle.jepsen_form.specs.declared.fault.FormFault.{FormFault}
+use Rattle.jepsen_form.specs.declared.gist.RefusedForm.{RefusedForm}
 use Rattle.jepsen_form.specs.declared.item.Item.{Item}
 use Rattle.jepsen_form.specs.Item.{IsItem}
 use Rattle.shards.specs.Plan.{Plan, claims_of}
@@ -25,7 +25,7 @@ use Rattle.feeders.proofs.Naming.{ItemsName, StepsAreOn, known_step}
 pub record HasRead (setting : Setting) (trace : List ℕ) (at : ℕ) (progress : Progress) (pass : PassModel) : Type 0 where
   pub pieces : List ElementModel
   pub front : IsFront trace pieces at
-  pub items : List (Result Item FormFault)
+  pub items : List (Result Item RefusedForm)
   pub read : AllZip (IsItem setting.tower setting.chosen) pieces items
   pub is_at : IsAt setting.plan setting.start items progress pass
 
@@ -39,12 +39,12 @@ zip_push R (first ∷ xs) (other ∷ ys) x y both is = (both.0, zip_push R xs ys
 pub begun : (setting : Setting) (trace : List ℕ) (progress : Progress) (pass : PassModel) → IsFront trace [] 0 → IsAt setting.plan setting.start [] progress pass → HasRead setting trace 0 progress pass
 begun setting trace progress pass front at = record { pieces = []; front = front; items = []; read = tt; is_at = at }
 
-pub read_on : (setting : Setting) (trace : List ℕ) (at to : ℕ) (old mid new : Progress) (pass after : PassModel) (piece : ElementModel) (item : Result Item FormFault) (step : StepResult)
+pub read_on : (setting : Setting) (trace : List ℕ) (at to : ℕ) (old mid new : Progress) (pass after : PassModel) (piece : ElementModel) (item : Result Item RefusedForm) (step : StepResult)
     → HasRead setting trace at old pass
     → ((pieces : List ElementModel) → IsFront trace pieces at → IsFront trace (pieces ++ piece ∷ []) to)
     → IsItem setting.tower setting.chosen piece item
-    → ((plan : Plan) (start : Start) (items : List (Result Item FormFault)) (pass : PassModel) → IsAt plan start items old pass → IsPaired plan start items item step mid pass)
-    → ((start : Start) (items : List (Result Item FormFault)) (item : Result Item FormFault) → IsPaired setting.plan start items item step mid pass → IsAt setting.plan start (items ++ item ∷ []) new after)
+    → ((plan : Plan) (start : Start) (items : List (Result Item RefusedForm)) (pass : PassModel) → IsAt plan start items old pass → IsPaired plan start items item step mid pass)
+    → ((start : Start) (items : List (Result Item RefusedForm)) (item : Result Item RefusedForm) → IsPaired setting.plan start items item step mid pass → IsAt setting.plan start (items ++ item ∷ []) new after)
     → HasRead setting trace to new after
 read_on setting trace at to old mid new pass after piece item step so_far goes is paired carried = record {
   pieces = so_far.pieces ++ piece ∷ [];
@@ -55,9 +55,9 @@ read_on setting trace at to old mid new pass after piece item step so_far goes i
 }
 
 -- the register of an element's step is one of the plan's, and the pass is the plan's
-pub read_known : (setting : Setting) (trace : List ℕ) (at : ℕ) (old mid : Progress) (pass : PassModel) (piece : ElementModel) (item : Result Item FormFault) (step : StepResult) → ItemsName → StepsAreOn
+pub read_known : (setting : Setting) (trace : List ℕ) (at : ℕ) (old mid : Progress) (pass : PassModel) (piece : ElementModel) (item : Result Item RefusedForm) (step : StepResult) → ItemsName → StepsAreOn
     → setting.plan.claims ≡ claims_of setting.tower → HasRead setting trace at old pass → IsItem setting.tower setting.chosen piece item
-    → ((plan : Plan) (start : Start) (items : List (Result Item FormFault)) (pass : PassModel) → IsAt plan start items old pass → IsPaired plan start items item step mid pass)
+    → ((plan : Plan) (start : Start) (items : List (Result Item RefusedForm)) (pass : PassModel) → IsAt plan start items old pass → IsPaired plan start items item step mid pass)
     → IsPassOf setting.plan pass × IsKnownStep setting.plan step
 read_known setting trace at old mid pass piece item step name on claims so_far is paired =
     let one = paired setting.plan setting.start so_far.items pass so_far.is_at in

@@ -1,9 +1,8 @@
 -- The element that waits goes on: it is read, paired and carried out.
-use Rattle.std.proofs.Common.{◌≡◌, ◌⊎◌, ℕ, ◌+◌, ◌≤◌, ◌<◌, ◌^◌, List, [], ◌∷◌, ◌++◌, length, Result, refl, sym, ap, subst, ◌∙◌, arith, append-nil, inl, inr}
+use Rattle.std.proofs.Common.{◌≡◌, ℕ, List, [], ◌∷◌, Result, refl, sym, ap, subst}
 use Rattle.std.specs.List.{AllZip}
 use Rattle.edn_reader.specs.Grammar.{ElementModel}
-use Rattle.edn_reader.specs.Splitting.{SplitterModel, keep}
-use Rattle.jepsen_form.specs.declared.fault.FormFault.{FormFault}
+use Rattle.jepsen_form.specs.declared.gist.RefusedForm.{RefusedForm}
 use Rattle.jepsen_form.specs.declared.item.Item.{Item}
 use Rattle.jepsen_form.specs.Item.{IsItem}
 use Rattle.shards.specs.Plan.{Plan, claims_of}
@@ -14,15 +13,15 @@ use Rattle.feeders.specs.declared.pending.Pending.{Pending}
 use Rattle.feeders.specs.declared.pending.Pending.TheVariants.{Nothing, Whole, Lent, Paired}
 use Rattle.feeders.specs.declared.progress.Progress.{Progress}
 use Rattle.feeders.specs.TailBuffer.{AreLastBytes}
-use Rattle.feeders.specs.Pending.{CanSettle, CanSettleAs, HoldsAs, IsBeside, WaitsBetweenElements, IsPending, IsPendingAs, IsReadAs, AreSettled, IsToBeCarriedOut, IsToBePaired, KeepsElement, count_of, IsTightAs}
-use Rattle.feeders.specs.Progress.{IsAhead, IsAt, IsPaired, PairedUpTo, IsKnownStep}
+use Rattle.feeders.specs.Pending.{CanSettleAs, HoldsAs, WaitsBetweenElements, IsPending, IsPendingAs, IsReadAs, KeepsElement, count_of, IsTightAs}
+use Rattle.feeders.specs.Progress.{IsAhead, IsAt, IsPaired, IsKnownStep}
 use Rattle.feeders.specs.Setting.{Setting}
 use Rattle.logs.specs.Start.{Start}
 use Rattle.logs.specs.Steps.{StepResult}
 use Rattle.feeders.proofs.Naming.{ItemsName, StepsAreOn, known_step}
 
 -- the element that waited was read
-pub read_as : (pending : Pending) (setting : Setting) (items : List (Result Item FormFault)) (waiting : List ElementModel) (pass : PassModel) (old : Progress) (new : Intake) (piece last : ElementModel)
+pub read_as : (pending : Pending) (setting : Setting) (items : List (Result Item RefusedForm)) (waiting : List ElementModel) (pass : PassModel) (old : Progress) (new : Intake) (piece last : ElementModel)
     → IsReadAs setting.tower setting.chosen piece old new.progress pending → piece ≡ last → waiting ≡ last ∷ [] → IsAt setting.plan setting.start items old pass
     → IsPendingAs pending setting items waiting new pass
 read_as Nothing setting items waiting pass old new piece last read same is at = absurd read
@@ -32,7 +31,7 @@ read_as (Lent item) setting items waiting pass old new piece last read same is a
 read_as (Paired step) setting items waiting pass old new piece last read same is at =
     (last, is, (read.0, subst (λ (p : ElementModel). IsItem setting.tower setting.chosen p read.0) same read.1, read.5 setting.plan setting.start items pass at))
 
-pub read_waits : (setting : Setting) (items : List (Result Item FormFault)) (waiting : List ElementModel) (pass : PassModel) (old new : Intake) (start : ℕ) (piece : ElementModel)
+pub read_waits : (setting : Setting) (items : List (Result Item RefusedForm)) (waiting : List ElementModel) (pass : PassModel) (old new : Intake) (start : ℕ) (piece : ElementModel)
     → old.pending ≡ Whole start → IsReadAs setting.tower setting.chosen piece old.progress new.progress new.pending
     → ((last : ElementModel) → KeepsElement start last old → piece ≡ last)
     → IsPending setting items waiting old pass → IsPending setting items waiting new pass
@@ -77,9 +76,9 @@ tight_any (Lent item) intake empty = λ _. empty
 tight_any (Paired step) intake empty = λ _. empty
 
 -- what was read is paired
-pub pair_waits : (setting : Setting) (items : List (Result Item FormFault)) (waiting : List ElementModel) (pass : PassModel) (old new : Intake) (item : Result Item FormFault) (step : StepResult)
+pub pair_waits : (setting : Setting) (items : List (Result Item RefusedForm)) (waiting : List ElementModel) (pass : PassModel) (old new : Intake) (item : Result Item RefusedForm) (step : StepResult)
     → old.pending ≡ Lent item → new.pending ≡ Paired step
-    → ((plan : Plan) (start : Start) (items : List (Result Item FormFault)) (pass : PassModel) → IsAt plan start items old.progress pass → IsPaired plan start items item step new.progress pass)
+    → ((plan : Plan) (start : Start) (items : List (Result Item RefusedForm)) (pass : PassModel) → IsAt plan start items old.progress pass → IsPaired plan start items item step new.progress pass)
     → IsPending setting items waiting old pass → IsPending setting items waiting new pass
 pair_waits setting items waiting pass old new item step was is paired pending =
     let waits = subst (λ (p : Pending). IsPendingAs p setting items waiting old pass) was pending in
@@ -87,7 +86,7 @@ pair_waits setting items waiting pass old new item step was is paired pending =
     (waits.0, waits.1, (item, waits.2, paired setting.plan setting.start items pass waits.3))
 
 -- the register of the step that waits is one of the plan's, and the pass is the plan's
-pub waits_known : (setting : Setting) (items : List (Result Item FormFault)) (waiting pieces : List ElementModel) (old : Intake) (pass : PassModel) (step : StepResult) → ItemsName → StepsAreOn
+pub waits_known : (setting : Setting) (items : List (Result Item RefusedForm)) (waiting pieces : List ElementModel) (old : Intake) (pass : PassModel) (step : StepResult) → ItemsName → StepsAreOn
     → old.pending ≡ Paired step → IsPending setting items waiting old pass → AllZip (IsItem setting.tower setting.chosen) pieces items → setting.plan.claims ≡ claims_of setting.tower
     → IsPassOf setting.plan pass × IsKnownStep setting.plan step
 waits_known setting items waiting pieces old pass step name on was pending read claims =

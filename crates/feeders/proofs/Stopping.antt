@@ -1,5 +1,5 @@
 -- Why a feeder stops: a refusal of its shard. The first of several faults is one of them.
-use Rattle.std.proofs.Common.{◌≡◌, ◌≢◌, ◌<◌, ℕ, List, [], ◌∷◌, ◌++◌, length, map, All, IfErr, Result, Ok, Err, refl, sym, subst, inl, arith}
+use Rattle.std.proofs.Common.{◌≡◌, ◌<◌, ℕ, List, [], ◌∷◌, ◌++◌, length, map, All, IfErr, Result, Ok, Err, refl, sym, subst, inl, arith}
 use Rattle.std.specs.Prelude.{OnErr, OnOk}
 use Rattle.shards.specs.declared.fault.ShardFault.{ShardFault}
 use Rattle.shards.specs.declared.fault.ShardFault.TheVariants as shards

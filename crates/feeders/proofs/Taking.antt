@@ -6,7 +6,7 @@ use Rattle.edn_reader.specs.Grammar.{ElementModel}
 use Rattle.edn_reader.specs.declared.fault.EdnFault.{EdnFault}
 use Rattle.edn_reader.specs.declared.splitter.Taken.{Taken}
 use Rattle.edn_reader.specs.Splitting.{IsLast, KeepsFault, SplitterModel, StandsAfter, TakesUpTo, WantsMemory, keep, TakesOn as SplitsOn}
-use Rattle.jepsen_form.specs.declared.fault.FormFault.{FormFault}
+use Rattle.jepsen_form.specs.declared.gist.RefusedForm.{RefusedForm}
 use Rattle.jepsen_form.specs.declared.item.Item.{Item}
 use Rattle.shards.specs.Pass.{PassModel}
 use Rattle.feeders.specs.declared.intake.Intake.{Intake}
@@ -251,7 +251,7 @@ used_one piece used span old mid new is takes none can =
 
 pub fed_taken : (setting : Setting) (piece : List ℕ) (used : ℕ) (span : ℕ × ℕ) (old mid new : Intake) (pass : PassModel) (bytes next : List ℕ) → IsTaken piece used old mid new → EndsOne piece used span old mid
     → AllElements → old.pending ≡ Nothing
-    → ((items : List (Result Item FormFault)) (last : ElementModel) → IsLast mid.splitter last → last.text ≡ drop (span.0 - mid.kept.from) (mid.kept.bytes.items ++ take used piece)
+    → ((items : List (Result Item RefusedForm)) (last : ElementModel) → IsLast mid.splitter last → last.text ≡ drop (span.0 - mid.kept.from) (mid.kept.bytes.items ++ take used piece)
     → IsAt setting.plan setting.start items mid.progress pass → IsPending setting items (last ∷ []) new pass)
     → HasFed setting bytes (piece ++ next) old pass → HasFed setting (bytes ++ take used piece) (drop used piece ++ next) new pass
 fed_taken setting piece used span old mid new pass bytes next is takes elements none waits fed =

@@ -14,7 +14,7 @@ use Rattle.intervals.specs.declared.edit.Lent.TheVariants as lents
 use Rattle.intervals.specs.Edit.{edit_id}
 use Rattle.register_book.specs.declared.reply.Reply.{Reply}
 use Rattle.tower_file.specs.Contents.{TowerModel}
-use Rattle.jepsen_form.specs.declared.fault.FormFault.{FormFault}
+use Rattle.jepsen_form.specs.declared.gist.RefusedForm.{RefusedForm}
 use Rattle.jepsen_form.specs.declared.item.Item.{Item}
 use Rattle.jepsen_form.specs.declared.item.MomentField.{MomentField}
 use Rattle.jepsen_form.specs.Item.{IsItem}
@@ -147,7 +147,7 @@ entered_by shards feeder at (entered register edit number reply) known e =
 entered_by shards feeder at (answered register reply) known e = absurd (cc)
 
 -- an entry that reads as one that was entered for a step
-record IsDone (feeder : ℕ) (items : List (Result Item FormFault)) (entry : Entry) : Type 0 where
+record IsDone (feeder : ℕ) (items : List (Result Item RefusedForm)) (entry : Entry) : Type 0 where
   place : ℕ
   edit : Edit
   step : slice_get (steps_of feeder items) place ≡ Some (Ok (Some (steps.Edit entry.register edit)))

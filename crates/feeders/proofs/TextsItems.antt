@@ -21,8 +21,10 @@ use Rattle.jepsen_form.specs.declared.item.MomentField.{MomentField}
 use Rattle.jepsen_form.specs.declared.fault.FormFault.{FormFault}
 use Rattle.jepsen_form.specs.declared.fault.FormFault.TheVariants.{BadType}
 use Rattle.jepsen_form.specs.declared.fault.FormField.TheVariants as fields
+use Rattle.jepsen_form.specs.declared.gist.Gist.{Gist}
+use Rattle.jepsen_form.specs.declared.gist.RefusedForm.{RefusedForm}
 use Rattle.jepsen_form.specs.Fields.{Fields, UnderValue, fields_of}
-use Rattle.jepsen_form.specs.Item.{IsItem, no_map, of_map, the_one, at_most_one, is_there, value_stated, moment_of, end_of, the_stage, the_action, the_register, the_moment, if_told, value_told, by_process, change_of, edited_place, kind_stated, claim_of, edit_by, question_of, register_named, item_of}
+use Rattle.jepsen_form.specs.Item.{IsItem, no_map, of_map, the_one, at_most_one, is_there, value_stated, moment_of, end_of, the_stage, the_action, the_register, the_moment, if_told, value_told, by_process, change_of, edited_place, kind_stated, claim_of, edit_by, question_of, register_named, item_of, gist_of, with_gist}
 
 -- the item's text, where it has one, is these bytes; an amendment lends it as that
 abbrev pub Carries : List ℕ → Item → Type 0
@@ -151,10 +153,16 @@ of_item tower found said text =
     (through text.now (the_one fields.Ask found.ask) (question_of tower) (λ name. of_question tower text.now (register_named tower name)))
     (through text.now (the_one fields.Process found.process) (λ piece. by_process tower found said text (int_of piece)) (λ piece. of_process tower found said text (int_of piece))))
 
-carries : {tower : TowerModel} {chosen : MomentField} {piece : ElementModel} {answer : Result Item FormFault} → IsItem tower chosen piece answer → AnswerCarries piece.text answer
+-- what can be read of a refused element has no text
+beside : (bytes : List ℕ) (gist : Gist) (answer : Result Item FormFault) → AnswerCarries bytes answer → IfOk (with_gist gist answer) (Carries bytes)
+beside bytes gist (Ok item) carries = carries
+beside bytes gist (Err fault) carries = tt
+
+carries : {tower : TowerModel} {chosen : MomentField} {piece : ElementModel} {answer : Result Item RefusedForm} → IsItem tower chosen piece answer → IfOk answer (Carries piece.text)
 carries (no_map none) = tt
-carries {tower = tower} {chosen = chosen} (of_map pairs said text has under same) =
-    subst (λ (bytes : List ℕ). AnswerCarries bytes (item_of tower (fields_of chosen pairs) said text)) same (of_item tower (fields_of chosen pairs) said text)
+carries {tower = tower} {chosen = chosen} {piece = piece} (of_map pairs said inner text has under within same) =
+    beside piece.text (gist_of tower (fields_of chosen pairs) said inner) (item_of tower (fields_of chosen pairs) said text)
+    (subst (λ (bytes : List ℕ). AnswerCarries bytes (item_of tower (fields_of chosen pairs) said text)) same (of_item tower (fields_of chosen pairs) said text))
 
 pub item_carries : (tower : TowerModel) (chosen : MomentField) (piece : ElementModel) (item : Item) → IsItem tower chosen piece (Ok item) → Carries piece.text item
 item_carries tower chosen piece item is = carries is

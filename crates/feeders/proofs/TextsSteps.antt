@@ -10,20 +10,22 @@ use Rattle.intervals.specs.declared.edit.Edit.TheVariants as edits
 use Rattle.intervals.specs.declared.edit.Lent.{Lent}
 use Rattle.intervals.specs.declared.edit.Lent.TheVariants as lents
 use Rattle.intervals.specs.Edit.{edit_id}
-use Rattle.jepsen_form.specs.declared.fault.FormFault.{FormFault}
+use Rattle.jepsen_form.specs.declared.gist.RefusedForm.{RefusedForm}
 use Rattle.jepsen_form.specs.declared.item.Event.{Event as AnEvent}
 use Rattle.jepsen_form.specs.declared.item.Item.{Item}
 use Rattle.jepsen_form.specs.declared.item.Item.TheVariants as items
 use Rattle.jepsen_form.specs.declared.item.Stage.{Stage}
 use Rattle.jepsen_form.specs.declared.item.Stage.TheVariants as stages
+use Rattle.pairing.specs.declared.about.About.{About}
 use Rattle.pairing.specs.declared.fault.PairFault.{PairFault}
 use Rattle.pairing.specs.declared.invocation.Invocation.{Invocation}
 use Rattle.pairing.specs.declared.step.Step.{Step}
 use Rattle.pairing.specs.declared.step.Step.TheVariants as steps
+use Rattle.pairing.specs.About.{gist_of_item}
 use Rattle.pairing.specs.Accepted.{Placed, invocation as invoked, is_event_of, last_of, unanswered_of, register_of, fault_of, with_accepted, accepted}
 use Rattle.pairing.specs.Step.{id_of, append_of, amendment_of, invoke_step, ok_step, event_step, edit_step, given_by, unless}
 use Rattle.pairing.proofs.Standing.{invocation_place}
-use Rattle.logs.specs.Steps.{placed_from, placed, by_pairing, step_after, steps_after, steps_of}
+use Rattle.logs.specs.Steps.{about_after, placed_from, placed, by_pairing, step_after, steps_after, steps_of}
 use Rattle.feeders.specs.Texts.{TextKind, invocation, answer, amendment, text_of, text_in, settled, brought_at, brought, IsPlaced}
 use Rattle.feeders.proofs.TextsItems.{Carries}
 use Rattle.feeders.proofs.TextsLists.{all_reverse, all_found, all_filter_map}
@@ -33,7 +35,7 @@ use Rattle.feeders.proofs.TextsLists.{all_reverse, all_found, all_filter_map}
 abbrev Before : ℕ → List Placed → Type 0
 Before place taken = AllByRecursion (λ one. one.place < place) taken
 
-before_placed : (place n : ℕ) (items : List (Result Item FormFault)) → place + length items ≤ n → Before n (placed_from place items)
+before_placed : (place n : ℕ) (items : List (Result Item RefusedForm)) → place + length items ≤ n → Before n (placed_from place items)
 before_placed place n [] le = tt
 before_placed place n (Err fault ∷ items) le = before_placed (place + 1) n items (omega arith)
 before_placed place n (Ok item ∷ items) le = (omega arith, before_placed (place + 1) n items (omega arith))
@@ -53,7 +55,7 @@ before_all : (place : ℕ) (taken items : List Placed) → Before place taken �
 before_all place taken [] h k = h
 before_all place taken (one ∷ items) h k = before_all place (with_accepted taken one) items (before_with place taken one h k.0) k.1
 
-before_accepted : (items : List (Result Item FormFault)) → Before (length items) (accepted (placed items))
+before_accepted : (items : List (Result Item RefusedForm)) → Before (length items) (accepted (placed items))
 before_accepted items = before_all (length items) [] (placed items) tt (before_placed 0 (length items) items (omega arith))
 
 same_some : {X : Type 0} (x y : X) → Some x ≡ Some y → x ≡ y
@@ -157,17 +159,17 @@ module _ (feeder place : ℕ) (bytes : List ℕ) (register : RegId) (edit : Edit
   of_item taken (items.Ask on) before is e = absurd (cc)
   of_item taken items.Skipped before is e = absurd (cc)
 
-  of_step : (fault : Option PairFault) (step : Option Step) → by_pairing (unless fault step) ≡ Ok (Some (steps.Edit register edit)) → step ≡ Some (steps.Edit register edit)
-  of_step None step e = cc
-  of_step (Some fault) step e = absurd (cc)
+  of_step : (about : About) (fault : Option PairFault) (step : Option Step) → by_pairing about (unless fault step) ≡ Ok (Some (steps.Edit register edit)) → step ≡ Some (steps.Edit register edit)
+  of_step about None step e = cc
+  of_step about (Some fault) step e = absurd (cc)
 
 -- the item at the place of a step that is an edit
-pub record IsFromItem (feeder : ℕ) (items : List (Result Item FormFault)) (place : ℕ) (edit : Edit) : Type 0 where
+pub record IsFromItem (feeder : ℕ) (items : List (Result Item RefusedForm)) (place : ℕ) (edit : Edit) : Type 0 where
   pub item : Item
   pub item_is : slice_get items place ≡ Some (Ok item)
   pub edit_is : (bytes : List ℕ) → Carries bytes item → IsEditAt feeder place bytes (brought item) edit
 
-of_after : (feeder n : ℕ) (front : List (Result Item FormFault)) (one : Result Item FormFault) (register : RegId) (edit : Edit) → length front ≡ n → step_after feeder front one ≡ Ok (Some (steps.Edit register edit))
+of_after : (feeder n : ℕ) (front : List (Result Item RefusedForm)) (one : Result Item RefusedForm) (register : RegId) (edit : Edit) → length front ≡ n → step_after feeder front one ≡ Ok (Some (steps.Edit register edit))
     → (item : Item) × (one ≡ Ok item) × ((bytes : List ℕ) → Carries bytes item → IsEditAt feeder n bytes (brought item) edit)
 of_after feeder n front (Err fault) register edit at e = absurd (cc)
 of_after feeder n front (Ok item) register edit at e = (
@@ -175,20 +177,20 @@ of_after feeder n front (Ok item) register edit at e = (
   refl,
   λ bytes is. subst (λ (k : ℕ). IsEditAt feeder k bytes (brought item) edit) at
       (of_item feeder (length front) bytes register edit (accepted (placed front)) item (before_accepted front) is
-      (of_step feeder (length front) bytes register edit (fault_of (accepted (placed front)) item) (given_by feeder (accepted (placed front)) (length front) item) e)),
+      (of_step feeder (length front) bytes register edit (about_after feeder front (gist_of_item item)) (fault_of (accepted (placed front)) item) (given_by feeder (accepted (placed front)) (length front) item) e)),
 )
 
-from_item : (feeder : ℕ) (before rest : List (Result Item FormFault)) (k n : ℕ) (register : RegId) (edit : Edit) → n ≡ length before + k
+from_item : (feeder : ℕ) (before rest : List (Result Item RefusedForm)) (k n : ℕ) (register : RegId) (edit : Edit) → n ≡ length before + k
     → slice_get (steps_after feeder before rest) k ≡ Some (Ok (Some (steps.Edit register edit)))
     → (item : Item) × (slice_get rest k ≡ Some (Ok item)) × ((bytes : List ℕ) → Carries bytes item → IsEditAt feeder n bytes (brought item) edit)
 from_item feeder before [] k n register edit at e = absurd (cc)
 from_item feeder before (one ∷ rest) zero n register edit at e =
     let r = of_after feeder n before one register edit (omega (arith, at)) (same_some _ _ e) in
-    (r.0, ap (λ (x : Result Item FormFault). Some x) r.1, r.2)
+    (r.0, ap (λ (x : Result Item RefusedForm). Some x) r.1, r.2)
 from_item feeder before (one ∷ rest) (suc k) n register edit at e =
     from_item feeder (before ++ one ∷ []) rest k n register edit (omega (arith, at, length-append before (one ∷ []))) e
 
-pub step_is_of_item : (feeder : ℕ) (items : List (Result Item FormFault)) (place : ℕ) (register : RegId) (edit : Edit)
+pub step_is_of_item : (feeder : ℕ) (items : List (Result Item RefusedForm)) (place : ℕ) (register : RegId) (edit : Edit)
     → slice_get (steps_of feeder items) place ≡ Some (Ok (Some (steps.Edit register edit))) → IsFromItem feeder items place edit
 step_is_of_item feeder items place register edit e =
     let r = from_item feeder [] items place place register edit (omega arith) e in

@@ -3,7 +3,7 @@ use Rattle.std.specs.Prelude.{◌≤◌, ℕ, List, ◌++◌, length, Result}
 use Rattle.std.specs.List.{AllZip}
 use Rattle.edn_reader.specs.Grammar.{ElementModel}
 use Rattle.edn_reader.specs.Fault.{AreElementsSoFar}
-use Rattle.jepsen_form.specs.declared.fault.FormFault.{FormFault}
+use Rattle.jepsen_form.specs.declared.gist.RefusedForm.{RefusedForm}
 use Rattle.jepsen_form.specs.declared.item.Item.{Item}
 use Rattle.jepsen_form.specs.Item.{IsItem}
 use Rattle.shards.specs.Pass.{PassModel}
@@ -17,7 +17,7 @@ use Rattle.logs.specs.Steps.{steps_of}
 pub record HasAdded (setting : Setting) (bytes next : List ℕ) (pass : PassModel) (log : Log) : Type 0 where
   pub pieces : List ElementModel
   pub waiting : List ElementModel
-  pub items : List (Result Item FormFault)
+  pub items : List (Result Item RefusedForm)
   pub ended : AreElementsSoFar bytes next (pieces ++ waiting)
   pub one : length waiting ≤ 1
   pub read : AllZip (IsItem setting.tower setting.chosen) pieces items

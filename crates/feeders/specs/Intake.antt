@@ -3,7 +3,7 @@ use Rattle.std.specs.Prelude.{◌≡◌, ◌≤◌, ◌<◌, ◌+◌, ◌^◌, �
 use Rattle.std.specs.List.{AllZip}
 use Rattle.edn_reader.specs.Grammar.{ElementModel}
 use Rattle.edn_reader.specs.Splitting.{StandsAfter, keep}
-use Rattle.jepsen_form.specs.declared.fault.FormFault.{FormFault}
+use Rattle.jepsen_form.specs.declared.gist.RefusedForm.{RefusedForm}
 use Rattle.jepsen_form.specs.declared.item.Item.{Item}
 use Rattle.jepsen_form.specs.Item.{IsItem}
 use Rattle.shards.specs.Pass.{PassModel}
@@ -42,7 +42,7 @@ pub record CanGoOn (next : List ℕ) (intake : Intake) : Type 0 where
 pub record HasFed (setting : Setting) (bytes next : List ℕ) (intake : Intake) (pass : PassModel) : Type 0 where
   pub pieces : List ElementModel
   pub waiting : List ElementModel
-  pub items : List (Result Item FormFault)
+  pub items : List (Result Item RefusedForm)
   pub taken : HasTaken bytes next (pieces ++ waiting) intake
   pub read : AllZip (IsItem setting.tower setting.chosen) pieces items
   pub pending : IsPending setting items waiting intake pass
@@ -57,7 +57,7 @@ HasEnded setting trace intake pass = IsFed setting trace (record { pass = pass; 
 pub record IsAtEnd (setting : Setting) (trace : List ℕ) (intake : Intake) (pass : PassModel) : Type 0 where
   pub pieces : List ElementModel
   pub waiting : List ElementModel
-  pub items : List (Result Item FormFault)
+  pub items : List (Result Item RefusedForm)
   pub elements : AreElements trace intake.progress.log.broken (pieces ++ waiting)
   pub read : AllZip (IsItem setting.tower setting.chosen) pieces items
   pub pending : IsPending setting items waiting intake pass

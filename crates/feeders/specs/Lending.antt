@@ -1,14 +1,14 @@
 -- Which elements lend their text to a step. Only private clauses speak of it.
 use Rattle.std.specs.Prelude.{Bool, false, Some, None, is_some, Result, Ok, Err}
 use Rattle.intervals.specs.declared.edit.Edit.TheVariants as edits
-use Rattle.jepsen_form.specs.declared.fault.FormFault.{FormFault}
+use Rattle.jepsen_form.specs.declared.gist.RefusedForm.{RefusedForm}
 use Rattle.jepsen_form.specs.declared.item.Item.{Item}
 use Rattle.pairing.specs.declared.step.Step.TheVariants as steps
 use Rattle.logs.specs.Steps.{StepResult}
 use Rattle.feeders.specs.Texts.{brought}
 
 -- whether an item's step may lend its text: that of an invocation, of an answer that is `:ok`, or of an amendment
-abbrev pub is_lent : Result Item FormFault → Bool
+abbrev pub is_lent : Result Item RefusedForm → Bool
 is_lent (Err fault) = false
 is_lent (Ok item) = is_some (brought item)
 

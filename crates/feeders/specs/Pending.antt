@@ -5,7 +5,7 @@ use Rattle.std.specs.List.{AllZip}
 use Rattle.edn_reader.specs.Grammar.{ElementModel, IsElement}
 use Rattle.edn_reader.specs.Splitting.{SplitterModel, IsLast, keep}
 use Rattle.tower_file.specs.Contents.{TowerModel}
-use Rattle.jepsen_form.specs.declared.fault.FormFault.{FormFault}
+use Rattle.jepsen_form.specs.declared.gist.RefusedForm.{RefusedForm}
 use Rattle.jepsen_form.specs.declared.item.Item.{Item}
 use Rattle.jepsen_form.specs.declared.item.MomentField.{MomentField}
 use Rattle.jepsen_form.specs.Item.{IsItem}
@@ -22,7 +22,7 @@ use Rattle.feeders.specs.Setting.{Setting}
 use Rattle.logs.specs.Start.{Start}
 
 -- the item, where one was read, is that of the element that ended last, if that element has this text
-abbrev pub IsItemOfLast : TowerModel → MomentField → SplitterModel → List ℕ → Option (Result Item FormFault) → Type 0
+abbrev pub IsItemOfLast : TowerModel → MomentField → SplitterModel → List ℕ → Option (Result Item RefusedForm) → Type 0
 IsItemOfLast tower chosen splitting text item = IfSome item (λ item. (last : ElementModel) → IsLast splitting last → last.text ≡ text → IsItem tower chosen last item)
 
 -- the page, where there is one, has these bytes
@@ -36,8 +36,8 @@ IsReadAs tower chosen piece old new Nothing = ⊥
 IsReadAs tower chosen piece old new (Whole start) = ⊥
 IsReadAs tower chosen piece old new (Lent item) = IsItem tower chosen piece item × (new ≡ old)
 IsReadAs tower chosen piece old new (Paired step) =
-    (item : Result Item FormFault) × IsItem tower chosen piece item × PairedUpTo new × (new.place ≡ old.place) × (new.log ≡ old.log)
-    × ((plan : Plan) (start : Start) (items : List (Result Item FormFault)) (pass : PassModel) → IsAt plan start items old pass → IsPaired plan start items item step new pass)
+    (item : Result Item RefusedForm) × IsItem tower chosen piece item × PairedUpTo new × (new.place ≡ old.place) × (new.log ≡ old.log)
+    × ((plan : Plan) (start : Start) (items : List (Result Item RefusedForm)) (pass : PassModel) → IsAt plan start items old pass → IsPaired plan start items item step new pass)
 
 -- this is the element that ended last, and its bytes are the kept ones from the place `start` on
 abbrev pub KeepsElement : ℕ → ElementModel → Intake → Type 0
@@ -45,23 +45,23 @@ KeepsElement start last intake = IsLast intake.splitter last × (last.text ≡ d
 
 -- the elements of `items` are carried out, and at most one waits after them, in this state: not read yet, read, or
 -- paired
-abbrev pub IsPendingAs : Pending → Setting → List (Result Item FormFault) → List ElementModel → Intake → PassModel → Type 0
+abbrev pub IsPendingAs : Pending → Setting → List (Result Item RefusedForm) → List ElementModel → Intake → PassModel → Type 0
 IsPendingAs Nothing setting items waiting intake pass = (waiting ≡ []) × IsAt setting.plan setting.start items intake.progress pass
 IsPendingAs (Whole start) setting items waiting intake pass =
     (last : ElementModel) × (waiting ≡ last ∷ []) × KeepsElement start last intake × IsAt setting.plan setting.start items intake.progress pass
 IsPendingAs (Lent item) setting items waiting intake pass =
     (last : ElementModel) × (waiting ≡ last ∷ []) × IsItem setting.tower setting.chosen last item × IsAt setting.plan setting.start items intake.progress pass
 IsPendingAs (Paired step) setting items waiting intake pass =
-    (last : ElementModel) × (waiting ≡ last ∷ []) × ((item : Result Item FormFault) × IsItem setting.tower setting.chosen last item × IsPaired setting.plan setting.start items item step intake.progress pass)
+    (last : ElementModel) × (waiting ≡ last ∷ []) × ((item : Result Item RefusedForm) × IsItem setting.tower setting.chosen last item × IsPaired setting.plan setting.start items item step intake.progress pass)
 
 -- the elements of `items` are carried out, and at most one waits after them, in the state that the intake has for it
-abbrev pub IsPending : Setting → List (Result Item FormFault) → List ElementModel → Intake → PassModel → Type 0
+abbrev pub IsPending : Setting → List (Result Item RefusedForm) → List ElementModel → Intake → PassModel → Type 0
 IsPending setting items waiting intake pass = IsPendingAs intake.pending setting items waiting intake pass
 
 -- the elements of `items` and those that waited after them are carried out
-abbrev pub AreSettled : Setting → List (Result Item FormFault) → List ElementModel → Progress → PassModel → Type 0
+abbrev pub AreSettled : Setting → List (Result Item RefusedForm) → List ElementModel → Progress → PassModel → Type 0
 AreSettled setting items waiting progress pass =
-    (more : List (Result Item FormFault)) × AllZip (IsItem setting.tower setting.chosen) waiting more × IsAt setting.plan setting.start (items ++ more) progress pass
+    (more : List (Result Item RefusedForm)) × AllZip (IsItem setting.tower setting.chosen) waiting more × IsAt setting.plan setting.start (items ++ more) progress pass
 
 -- the element that ended last is the kept bytes from the place `start` on, and nothing was taken after it
 pub record CanRead (start : ℕ) (intake : Intake) : Type 0 where

@@ -3,7 +3,7 @@ use Rattle.std.specs.Prelude.{◌≡◌, ◌<◌, ◌≤◌, ℕ, List, [], ◌�
 use Rattle.std.specs.Borrow.{Bor}
 use Rattle.std.specs.Option.{ForSome}
 use Rattle.tower_file.specs.Contents.{TowerModel}
-use Rattle.jepsen_form.specs.declared.fault.FormFault.{FormFault}
+use Rattle.jepsen_form.specs.declared.gist.RefusedForm.{RefusedForm}
 use Rattle.jepsen_form.specs.declared.item.Item.{Item}
 use Rattle.jepsen_form.specs.declared.item.MomentField.{MomentField}
 use Rattle.pairing.specs.declared.step.Step.TheVariants as steps
@@ -49,7 +49,7 @@ abbrev pub PairedUpTo : Progress → Type 0
 PairedUpTo progress = ForSome progress.pairing.last (λ last. last ≤ progress.place)
 
 -- the progress and the pass are as after these elements, each of which is carried out
-pub record IsAt (plan : Plan) (start : Start) (items : List (Result Item FormFault)) (progress : Progress) (pass : PassModel) : Type 0 where
+pub record IsAt (plan : Plan) (start : Start) (items : List (Result Item RefusedForm)) (progress : Progress) (pass : PassModel) : Type 0 where
   pub place : progress.place ≡ length items
   pub feeder_is : progress.pairing.feeder ≡ start.feeder
   pub pairing : KnowsItems progress.pairing (placed items)
@@ -57,7 +57,7 @@ pub record IsAt (plan : Plan) (start : Start) (items : List (Result Item FormFau
 
 -- the progress and the pass are as after the elements of `items`, and `item` after them is paired: `step` is its step,
 -- not carried out yet
-pub record IsPaired (plan : Plan) (start : Start) (items : List (Result Item FormFault)) (item : Result Item FormFault) (step : StepResult) (progress : Progress) (pass : PassModel) : Type 0 where
+pub record IsPaired (plan : Plan) (start : Start) (items : List (Result Item RefusedForm)) (item : Result Item RefusedForm) (step : StepResult) (progress : Progress) (pass : PassModel) : Type 0 where
   pub place : progress.place ≡ length items
   pub feeder_is : progress.pairing.feeder ≡ start.feeder
   pub pairing : KnowsItems progress.pairing (placed (items ++ item ∷ []))
@@ -66,7 +66,7 @@ pub record IsPaired (plan : Plan) (start : Start) (items : List (Result Item For
 
 -- a feeder has gone through its trace, up to the end or to where it broke: its pass and its log have the trace's steps
 pub record IsFed (setting : Setting) (trace : List ℕ) (fed : FeederOutcome) : Type 0 where
-  pub items : List (Result Item FormFault)
+  pub items : List (Result Item RefusedForm)
   pub are : AreItemsOfTrace setting.tower setting.chosen trace fed.log.broken items
   pub done : HasDone setting.plan setting.start fed.pass fed.log.lines.items (steps_of setting.start.feeder items)
 

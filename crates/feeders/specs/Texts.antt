@@ -12,7 +12,7 @@ use Rattle.intervals.specs.declared.edit.Lent.{Lent}
 use Rattle.intervals.specs.declared.edit.Lent.TheVariants as lents
 use Rattle.intervals.specs.Edit.{edit_id}
 use Rattle.tower_file.specs.Contents.{TowerModel}
-use Rattle.jepsen_form.specs.declared.fault.FormFault.{FormFault}
+use Rattle.jepsen_form.specs.declared.gist.RefusedForm.{RefusedForm}
 use Rattle.jepsen_form.specs.declared.item.Item.{Item}
 use Rattle.jepsen_form.specs.declared.item.Item.TheVariants as items
 use Rattle.jepsen_form.specs.declared.item.Stage.{Stage}
@@ -89,7 +89,7 @@ brought items.Skipped = None
 pub record TraceReading (tower : TowerModel) (chosen : MomentField) (traces : List (List ℕ)) (logs : List Log) (feeder : ℕ) : Type 0 where
   pub trace : List ℕ
   pub log : Log
-  pub items : List (Result Item FormFault)
+  pub items : List (Result Item RefusedForm)
   pub trace_is : slice_get traces feeder ≡ Some trace
   pub log_is : slice_get logs feeder ≡ Some log
   pub are : AreItemsOfTrace tower chosen trace log.broken items
@@ -108,7 +108,7 @@ IsPlaced place (edits.Claim kind) = Unit {0}
 
 -- the entry reads as the edit of the step at this place of the feeder's trace; an operation that it names is the
 -- feeder's, and a text that it lends is the element there
-pub record IsOfStep (feeder : ℕ) (trace : List ℕ) (pieces : List ElementModel) (items : List (Result Item FormFault)) (entry : Entry) (place : ℕ) : Type 0 where
+pub record IsOfStep (feeder : ℕ) (trace : List ℕ) (pieces : List ElementModel) (items : List (Result Item RefusedForm)) (entry : Entry) (place : ℕ) : Type 0 where
   pub edit : Edit
   pub step : slice_get (steps_of feeder items) place ≡ Some (Ok (Some (steps.Edit entry.register edit)))
   pub reads : plain_edit entry.edit ≡ plain_edit edit
@@ -123,7 +123,7 @@ pub record IsOfStep (feeder : ℕ) (trace : List ℕ) (pieces : List ElementMode
 
 -- the text is the element at this place of the trace: the item there brings a text of this kind, and its edit is the
 -- last accepted one of the operation that makes something of it
-pub record IsLentAt (trace : List ℕ) (pieces : List ElementModel) (items : List (Result Item FormFault)) (register : ℕ) (journal : List Entry) (id : OpId) (part : TextKind) (place : ℕ) (text : Bor (List ℕ)) : Type 0 where
+pub record IsLentAt (trace : List ℕ) (pieces : List ElementModel) (items : List (Result Item RefusedForm)) (register : ℕ) (journal : List Entry) (id : OpId) (part : TextKind) (place : ℕ) (text : Bor (List ℕ)) : Type 0 where
   pub last : IsLastSettled register journal id part (Some text)
   pub of_step : IsOfStep id.feeder trace pieces items last.entry place
   pub brings : brought of_step.item ≡ Some part
@@ -131,7 +131,7 @@ pub record IsLentAt (trace : List ℕ) (pieces : List ElementModel) (items : Lis
 
 -- the text is an element of the trace at a place after the operation's: the item there brings a text of this kind, and
 -- its edit is the last accepted one of the operation that makes something of it
-abbrev pub IsLentBehind : List ℕ → List ElementModel → List (Result Item FormFault) → ℕ → List Entry → OpId → TextKind → Bor (List ℕ) → Type 0
+abbrev pub IsLentBehind : List ℕ → List ElementModel → List (Result Item RefusedForm) → ℕ → List Entry → OpId → TextKind → Bor (List ℕ) → Type 0
 IsLentBehind trace pieces items register journal id part text =
     (place : ℕ) × (id.event < place) × IsLentAt trace pieces items register journal id part place text
 

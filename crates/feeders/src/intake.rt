@@ -4,7 +4,7 @@ ghost use Rattle.std.specs.Prelude.{◌≡◌, ◌+◌, ◌≤◌, ◌<◌, ◌^
 ghost use Rattle.std.specs.List.{AllZip};
 ghost use Rattle.edn_reader.specs.Grammar.{ElementModel as APiece};
 ghost use Rattle.edn_reader.specs.Splitting.{IsLast};
-ghost use Rattle.jepsen_form.specs.declared.fault.FormFault.{FormFault as AFormFault};
+ghost use Rattle.jepsen_form.specs.declared.gist.RefusedForm.{RefusedForm as ARefusedForm};
 ghost use Rattle.jepsen_form.specs.declared.item.Item.{Item as AnItem};
 ghost use Rattle.jepsen_form.specs.Item.{IsItem};
 ghost use Rattle.shards.specs.Pass.{PassModel};
@@ -53,7 +53,7 @@ impl<'t> Intake<'t> {
         pages: &'t Pages,
     ) -> Result<(), Memory>
         requires can { CanSettle self.old }
-        ensures pending { (plan : Plan) (start : Start) (items : List (Result AnItem AFormFault)) (waiting : List APiece) (pass : PassModel)
+        ensures pending { (plan : Plan) (start : Start) (items : List (Result AnItem ARefusedForm)) (waiting : List APiece) (pass : PassModel)
             → IsPending (setting_of plan site.entry.tower.now site.entry.field start) items waiting self.old pass
             → IsPending (setting_of plan site.entry.tower.now site.entry.field start) items waiting self.new pass }
         ensures goes { OnOk result (IsToBePaired self.new.pending) }
@@ -77,7 +77,7 @@ impl<'t> Intake<'t> {
     fn pair_lent(&mut self) -> Result<(), Memory>
         requires can { CanSettle self.old }
         requires read { IsToBePaired self.old.pending }
-        ensures pending { (setting : Setting) (items : List (Result AnItem AFormFault)) (waiting : List APiece) (pass : PassModel)
+        ensures pending { (setting : Setting) (items : List (Result AnItem ARefusedForm)) (waiting : List APiece) (pass : PassModel)
             → IsPending setting items waiting self.old pass → IsPending setting items waiting self.new pass }
         ensures goes { OnOk result (IsToBeCarriedOut self.new.pending) }
         ensures refused { OnErr result (count_of self.old.pending ≡ 1) }
@@ -103,16 +103,16 @@ impl<'t> Intake<'t> {
         requires can { CanSettle self.old }
         requires paired { IsToBeCarriedOut self.old.pending }
         ensures settled { OnOk result (self.new.pending ≡ Pending.Nothing) }
-        ensures done { OnOk result ((start : Start) (items : List (Result AnItem AFormFault)) (waiting : List APiece)
+        ensures done { OnOk result ((start : Start) (items : List (Result AnItem ARefusedForm)) (waiting : List APiece)
             → IsPending (setting_of O.plan site.entry.tower.now site.entry.field start) items waiting self.old pass.old
             → AreSettled (setting_of O.plan site.entry.tower.now site.entry.field start) items waiting self.new.progress pass.new) }
-        ensures waits { OnErr result ((setting : Setting) (items : List (Result AnItem AFormFault)) (waiting : List APiece)
+        ensures waits { OnErr result ((setting : Setting) (items : List (Result AnItem ARefusedForm)) (waiting : List APiece)
             → setting.plan ≡ O.plan → IsPending setting items waiting self.old pass.old → IsPending setting items waiting self.new pass.new) }
         ensures can { CanSettle self.new }
         ensures beside { IsBeside self.old self.new }
         ensures place { OnOk result (self.new.progress.place ≡ self.old.progress.place + count_of self.old.pending) }
         ensures refused { OnErr result ((self.new.progress.place ≡ self.old.progress.place) × (count_of self.old.pending ≡ 1) × (count_of self.new.pending ≡ 1)) }
-        ensures fault { IfErr result (λ fault. (start : Start) (items : List (Result AnItem AFormFault)) (waiting pieces : List APiece)
+        ensures fault { IfErr result (λ fault. (start : Start) (items : List (Result AnItem ARefusedForm)) (waiting pieces : List APiece)
             → IsPending (setting_of O.plan site.entry.tower.now site.entry.field start) items waiting self.old pass.old
             → AllZip (IsItem site.entry.tower.now site.entry.field) pieces items → O.plan.claims ≡ claims_of site.entry.tower.now → MayStop O.plan pass.new fault) }
     {
@@ -137,17 +137,17 @@ impl<'t> Intake<'t> {
         requires some { 0 < O.plan.shards }
         requires can { CanSettle self.old }
         ensures settled { OnOk result (self.new.pending ≡ Pending.Nothing) }
-        ensures done { OnOk result ((start : Start) (items : List (Result AnItem AFormFault)) (waiting : List APiece)
+        ensures done { OnOk result ((start : Start) (items : List (Result AnItem ARefusedForm)) (waiting : List APiece)
             → IsPending (setting_of O.plan site.entry.tower.now site.entry.field start) items waiting self.old pass.old
             → AreSettled (setting_of O.plan site.entry.tower.now site.entry.field start) items waiting self.new.progress pass.new) }
-        ensures waits { OnErr result ((start : Start) (items : List (Result AnItem AFormFault)) (waiting : List APiece)
+        ensures waits { OnErr result ((start : Start) (items : List (Result AnItem ARefusedForm)) (waiting : List APiece)
             → IsPending (setting_of O.plan site.entry.tower.now site.entry.field start) items waiting self.old pass.old
             → IsPending (setting_of O.plan site.entry.tower.now site.entry.field start) items waiting self.new pass.new) }
         ensures can { CanSettle self.new }
         ensures beside { IsBeside self.old self.new }
         ensures place { OnOk result (self.new.progress.place ≡ self.old.progress.place + count_of self.old.pending) }
         ensures refused { OnErr result ((self.new.progress.place ≡ self.old.progress.place) × (count_of self.old.pending ≡ 1) × (count_of self.new.pending ≡ 1)) }
-        ensures fault { IfErr result (λ fault. (start : Start) (items : List (Result AnItem AFormFault)) (waiting pieces : List APiece)
+        ensures fault { IfErr result (λ fault. (start : Start) (items : List (Result AnItem ARefusedForm)) (waiting pieces : List APiece)
             → IsPending (setting_of O.plan site.entry.tower.now site.entry.field start) items waiting self.old pass.old
             → AllZip (IsItem site.entry.tower.now site.entry.field) pieces items → O.plan.claims ≡ claims_of site.entry.tower.now → MayStop O.plan pass.new fault) }
     {
@@ -171,7 +171,7 @@ impl<'t> Intake<'t> {
         requires can { CanReadBehind start front.now self.old }
         requires page { IsPageOf known.page (drop (start - self.old.kept.from) (self.old.kept.bytes.items ++ front.now)) }
         requires item { IsItemOfLast site.tower.now site.field self.old.splitter (drop (start - self.old.kept.from) (self.old.kept.bytes.items ++ front.now)) known.item }
-        ensures pending { (plan : Plan) (begun : Start) (items : List (Result AnItem AFormFault)) (pass : PassModel) (last : APiece)
+        ensures pending { (plan : Plan) (begun : Start) (items : List (Result AnItem ARefusedForm)) (pass : PassModel) (last : APiece)
             → IsLast self.old.splitter last → last.text ≡ drop (start - self.old.kept.from) (self.old.kept.bytes.items ++ front.entry.now)
             → IsAt plan begun items self.old.progress pass
             → IsPending (setting_of plan site.entry.tower.now site.entry.field begun) items (last ∷ []) self.new pass }

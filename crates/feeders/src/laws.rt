@@ -6,7 +6,7 @@ ghost use Rattle.std.specs.List.{AllByRecursion, slice_get};
 ghost use Rattle.intervals.specs.Terms.{RegisterState};
 ghost use Rattle.tower_file.specs.Contents.{TowerModel};
 ghost use Rattle.edn_reader.specs.Grammar.{ElementModel};
-ghost use Rattle.jepsen_form.specs.declared.fault.FormFault.{FormFault};
+ghost use Rattle.jepsen_form.specs.declared.gist.RefusedForm.{RefusedForm};
 ghost use Rattle.jepsen_form.specs.declared.item.Item.{Item};
 ghost use Rattle.jepsen_form.specs.declared.item.MomentField.{MomentField};
 ghost use Rattle.shards.specs.declared.entry.Entry.{Entry};
@@ -70,7 +70,7 @@ pub fn texts_are_elements_of_their_trace()
 /// changes no earlier step, whether the prefix is a text, breaks in its text or is where the reading broke off.
 /// (A trace whose own reading broke off is left out here: it may lack a last Atom that the prefix has.)
 pub fn steps_of_a_prefix()
-    ensures { (tower : TowerModel) (chosen : MomentField) (feeder : ℕ) (bytes more : List ℕ) (broken later : Option Broken) (items all : List (Result Item FormFault))
+    ensures { (tower : TowerModel) (chosen : MomentField) (feeder : ℕ) (bytes more : List ℕ) (broken later : Option Broken) (items all : List (Result Item RefusedForm))
         → AreItemsOfTrace tower chosen bytes broken items → AreItemsOfTrace tower chosen (bytes ++ more) later all → broke_reading later ≡ false
         → (rest : List PlainTaken) × (plain_steps feeder all ≡ plain_steps feeder items ++ rest) }
 {

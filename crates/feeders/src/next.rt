@@ -5,14 +5,14 @@ ghost use Rattle.edn_reader.specs.Splitting.{TakesOn};
 ghost use Rattle.feeders.specs.Pending.{IsItemOfLast};
 
 use edn_reader::{EdnFault, Splitter, Taken};
-use jepsen_form::{FormFault, Item, MomentField, read_first};
+use jepsen_form::{Item, MomentField, RefusedForm, read_first};
 use tower_file::Tower;
 
 /// How much of a chunk was taken, and the item of the element that ended, where it was read on the way.
 #[derive(Drop)]
 pub struct Next<'p> {
     pub taken: Taken,
-    pub item: Option<Result<Item<'p>, FormFault>>,
+    pub item: Option<Result<Item<'p>, RefusedForm>>,
 }
 
 /// Takes a chunk up to the end of the next element, or else to its own end, as the splitter does. Where no element

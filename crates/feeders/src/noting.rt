@@ -11,8 +11,8 @@ use crate::fault::RunFault;
 use crate::site::Site;
 use crate::watcher::{Placed, Watcher};
 use intervals::{Edit, RegId};
-use logs::{Code, Line, Log, Notice, What};
-use pairing::Step;
+use logs::{Code, LeftOut, Line, Log, Notice, What};
+use pairing::{Step, about_edit};
 use register_book::Reply;
 use shards::laws::what_was_told_stays;
 use shards::{Opening, Pass};
@@ -45,14 +45,14 @@ pub fn carry_out<'t, O: Opening, R: Wait, G: Watcher>(
 }
 
 /// Notes that the element at `place` is refused before it reaches a register.
-pub fn refuse<O: Opening>(log: &mut Log, place: u64, code: Code) -> Result<(), AllocError>
-    ensures done { OnOk result ((pass : PassModel) → GoesOn O.plan pass log.old pass log.new place (Err code)) }
+pub fn leave_out<O: Opening>(log: &mut Log, place: u64, left_out: LeftOut) -> Result<(), AllocError>
+    ensures done { OnOk result ((pass : PassModel) → GoesOn O.plan pass log.old pass log.new place (Err left_out)) }
     ensures kept { OnErr result (HasSameLines log.old log.new) }
     ensures broken { log.new.broken ≡ log.old.broken }
 {
     log.lines.push(Line {
         event: place,
-        what: What::Refused(code),
+        what: What::Refused(left_out),
     })?;
     Ok(())
 }
@@ -77,15 +77,18 @@ fn submit<'t, O: Opening, R: Wait, G: Watcher>(
     let gate = Placed::new(site.gate, place);
     let receipt = site.auditor.submit(site.rt, &gate, pass, register, edit)?;
     if let Reply::Refused(refusal) = receipt.reply {
-        let code = Code::Register(refusal);
+        let left_out = LeftOut {
+            code: Code::Register(refusal),
+            about: about_edit(register, &edit),
+        };
         log.lines.push_reserved(Line {
             event: place,
-            what: What::Refused(code),
+            what: What::Refused(left_out),
         });
         site.gate.told(Notice::Refused {
             feeder: pass.feeder(),
             place,
-            code,
+            left_out,
         });
     }
     Ok(())

@@ -16,8 +16,8 @@ use crate::watcher::Watcher;
 use edn_reader::{Element, Splitter};
 use intervals::{Edit, Memory};
 use jepsen_form::laws::one_item;
-use jepsen_form::{FormFault, Item, Stage, read_item};
-use logs::Code;
+use jepsen_form::{Item, RefusedForm, Stage, read_item};
+use logs::LeftOut;
 use pairing::Step;
 use shards::Opening;
 use std::sync::Wait;
@@ -29,9 +29,9 @@ pub enum Pending<'t> {
     /// It ended, and its bytes are kept from this place on.
     Whole(usize),
     /// It was read, and its text is on a page.
-    Lent(Result<Item<'t>, FormFault>),
+    Lent(Result<Item<'t>, RefusedForm>),
     /// It was paired: its step, or why it is refused.
-    Paired(Result<Option<Step<'t>>, Code>),
+    Paired(Result<Option<Step<'t>>, LeftOut>),
 }
 
 /// What is known already of an element that has ended: its text, where that is on a page, and its item, where that was
@@ -39,7 +39,7 @@ pub enum Pending<'t> {
 #[derive(Clone, Copy)]
 pub struct Known<'p, 't> {
     pub page: Option<&'t [u8]>,
-    pub item: Option<Result<Item<'p>, FormFault>>,
+    pub item: Option<Result<Item<'p>, RefusedForm>>,
 }
 
 /// Reads an element whose text is on no page, and holds its item.
@@ -92,7 +92,7 @@ pub fn hold_item<'t, O: Opening, R: Wait, G: Watcher>(
     site: Site<'_, '_, 't, O, R, G>,
     pages: &'t Pages,
     progress: &mut Progress<'t>,
-    item: Result<Item, FormFault>,
+    item: Result<Item, RefusedForm>,
     text: &[u8],
     page: Option<&'t [u8]>,
 ) -> Result<Pending<'t>, Memory>
@@ -115,7 +115,7 @@ pub fn hold_item<'t, O: Opening, R: Wait, G: Watcher>(
 }
 
 /// The same answer, whose item lends its text from a page.
-fn from_page<'t>(item: Result<Item, FormFault>, page: &'t [u8]) -> Result<Item<'t>, FormFault>
+fn from_page<'t>(item: Result<Item, RefusedForm>, page: &'t [u8]) -> Result<Item<'t>, RefusedForm>
     ensures { result ≡ answer_with page.entry item.entry }
 {
     match item {
@@ -125,7 +125,7 @@ fn from_page<'t>(item: Result<Item, FormFault>, page: &'t [u8]) -> Result<Item<'
 }
 
 /// Whether the step of an item may lend its text; false for a fault of the form.
-fn is_lent(item: &Result<Item, FormFault>) -> bool
+fn is_lent(item: &Result<Item, RefusedForm>) -> bool
     ensures { result ≡ is_lent item.now }
 {
     match item {
@@ -140,7 +140,7 @@ fn is_lent(item: &Result<Item, FormFault>) -> bool
 }
 
 /// The step, which lends no text, with any lifetime.
-fn unlent<'t>(step: Result<Option<Step>, Code>) -> Result<Option<Step<'t>>, Code>
+fn unlent<'t>(step: Result<Option<Step>, LeftOut>) -> Result<Option<Step<'t>>, LeftOut>
     ensures { LendsNone step.entry → result ≡ step.entry }
 {
     match step {
@@ -152,6 +152,6 @@ fn unlent<'t>(step: Result<Option<Step>, Code>) -> Result<Option<Step<'t>>, Code
         }
         Ok(Some(Step::Ask(register))) => Ok(Some(Step::Ask(register))),
         Ok(_) => Ok(None),
-        Err(code) => Err(code),
+        Err(left_out) => Err(left_out),
     }
 }

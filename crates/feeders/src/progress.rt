@@ -1,8 +1,11 @@
 //! What a feeder knows between two elements.
 
 ghost use Rattle.std.specs.Prelude.{◌≡◌, ◌+◌, ◌<◌, ◌^◌, ◌∷◌, ◌++◌, [], List, Result, IfErr, IfOk, OnErr, OnOk, Err, None, IsTrue, ◌↔◌};
-ghost use Rattle.jepsen_form.specs.declared.fault.FormFault.{FormFault as AFormFault};
+ghost use Rattle.jepsen_form.specs.declared.gist.RefusedForm.{RefusedForm as ARefusedForm};
 ghost use Rattle.jepsen_form.specs.declared.item.Item.{Item as AnItem};
+ghost use Rattle.pairing.specs.About.{about_gist, gist_of_item};
+ghost use Rattle.pairing.specs.Accepted.{Placed, accepted};
+ghost use Rattle.pairing.specs.Known.{KnowsItems};
 ghost use Rattle.shards.specs.Pass.{IsPassOf, PassModel};
 ghost use Rattle.shards.specs.Plan.{Plan};
 ghost use Rattle.feeders.specs.Ending.{MayStop};
@@ -12,14 +15,15 @@ ghost use Rattle.logs.specs.Start.{Start};
 ghost use Rattle.logs.specs.Steps.{by_pairing};
 
 use crate::fault::RunFault;
-use crate::noting::{carry_out, refuse};
+use crate::noting::{carry_out, leave_out};
 use crate::outcome::FeederOutcome;
 use crate::site::Site;
 use crate::watcher::Watcher;
 use intervals::Memory;
-use jepsen_form::{FormFault, Item};
-use logs::{Broken, Code, Log, Notice};
-use pairing::{PairFault, Pairing, Step};
+use jepsen_form::{Item, RefusedForm};
+use logs::{Broken, Code, LeftOut, Log, Notice};
+use pairing::laws::a_refused_item_is_not_accepted;
+use pairing::{PairFault, Pairing, Step, gist_of_item};
 use shards::{Opening, Pass};
 use std::alloc::Global;
 use std::sync::Wait;
@@ -54,23 +58,27 @@ impl<'t> Progress<'t> {
     /// Pairs the next element, of which this is the item or the fault of its form: its step, or why it is refused.
     pub fn pair<'p>(
         &mut self,
-        item: Result<Item<'p>, FormFault>,
-    ) -> Result<Result<Option<Step<'p>>, Code>, Memory>
+        item: Result<Item<'p>, RefusedForm>,
+    ) -> Result<Result<Option<Step<'p>>, LeftOut>, Memory>
         requires ahead { IsAhead self.old }
         ensures place { self.new.place ≡ self.old.place }
         ensures last { OnOk result (PairedUpTo self.new) }
-        ensures paired { IfOk result (λ step. (plan : Plan) (start : Start) (items : List (Result AnItem AFormFault)) (pass : PassModel) → IsAt plan start items self.old pass → IsPaired plan start items item.entry step self.new pass) }
+        ensures paired { IfOk result (λ step. (plan : Plan) (start : Start) (items : List (Result AnItem ARefusedForm)) (pass : PassModel) → IsAt plan start items self.old pass → IsPaired plan start items item.entry step self.new pass) }
         ensures log { self.new.log ≡ self.old.log }
         ensures kept { OnErr result (self.new ≡ self.old) }
     {
+        a_refused_item_is_not_accepted();
         match item {
-            Err(fault) => Ok(Err(Code::Form(fault))),
+            Err(refused) => Ok(Err(LeftOut {
+                code: Code::Form(refused.fault),
+                about: self.pairing.about(&refused.gist),
+            })),
             Ok(item) => {
                 let step = self.pairing.take(item, self.place);
                 if wants_memory(&step) {
                     return Err(Memory);
                 }
-                Ok(with_code(step))
+                Ok(taken_by(&self.pairing, step, &item))
             }
         }
     }
@@ -80,27 +88,27 @@ impl<'t> Progress<'t> {
         &mut self,
         site: Site<'_, '_, 't, O, R, G>,
         pass: &mut Pass<'t>,
-        step: Result<Option<Step<'t>>, Code>,
+        step: Result<Option<Step<'t>>, LeftOut>,
     ) -> Result<(), RunFault>
         requires some { 0 < O.plan.shards }
         requires place { self.old.place + 1 < 2 ^ 64 }
         requires last { PairedUpTo self.old }
         ensures place { OnOk result (self.new.place ≡ self.old.place + 1) }
         ensures ahead { OnOk result (IsAhead self.new) }
-        ensures done { OnOk result ((start : Start) (items : List (Result AnItem AFormFault)) (item : Result AnItem AFormFault) → IsPaired O.plan start items item step.entry self.old pass.old → IsAt O.plan start (items ++ item ∷ []) self.new pass.new) }
-        ensures kept { OnErr result ((start : Start) (items : List (Result AnItem AFormFault)) (item : Result AnItem AFormFault) → IsPaired O.plan start items item step.entry self.old pass.old → IsPaired O.plan start items item step.entry self.new pass.new) }
+        ensures done { OnOk result ((start : Start) (items : List (Result AnItem ARefusedForm)) (item : Result AnItem ARefusedForm) → IsPaired O.plan start items item step.entry self.old pass.old → IsAt O.plan start (items ++ item ∷ []) self.new pass.new) }
+        ensures kept { OnErr result ((start : Start) (items : List (Result AnItem ARefusedForm)) (item : Result AnItem ARefusedForm) → IsPaired O.plan start items item step.entry self.old pass.old → IsPaired O.plan start items item step.entry self.new pass.new) }
         ensures refused { OnErr result ((self.new.place ≡ self.old.place) × PairedUpTo self.new) }
         ensures broken { self.new.log.broken ≡ self.old.log.broken }
         ensures fault { IfErr result (λ fault. IsPassOf O.plan pass.old → IsKnownStep O.plan step.entry → MayStop O.plan pass.new fault) }
     {
         match step {
             Ok(step) => carry_out(&mut self.log, site, pass, self.place, step)?,
-            Err(code) => {
-                refuse::<O>(&mut self.log, self.place, code)?;
+            Err(left_out) => {
+                leave_out::<O>(&mut self.log, self.place, left_out)?;
                 site.gate.told(Notice::Refused {
                     feeder: pass.feeder(),
                     place: self.place,
-                    code,
+                    left_out,
                 });
             }
         }
@@ -131,12 +139,19 @@ fn wants_memory(step: &Result<Option<Step>, PairFault>) -> bool
     matches!(step, Err(PairFault::Memory))
 }
 
-/// What the pairing answered, with its refusal as a code of the log.
-fn with_code<'p>(step: Result<Option<Step<'p>>, PairFault>) -> Result<Option<Step<'p>>, Code>
-    ensures { result ≡ by_pairing step.entry }
+/// What the pairing answered to an item; a refusal with what the item is about.
+fn taken_by<'p>(
+    pairing: &Pairing,
+    step: Result<Option<Step<'p>>, PairFault>,
+    item: &Item,
+) -> Result<Option<Step<'p>>, LeftOut>
+    ensures { (items : List Placed) → KnowsItems pairing.now items → result ≡ by_pairing (about_gist pairing.now.feeder (accepted items) (gist_of_item item.now)) step.entry }
 {
     match step {
         Ok(step) => Ok(step),
-        Err(fault) => Err(Code::Pair(fault)),
+        Err(fault) => Err(LeftOut {
+            code: Code::Pair(fault),
+            about: pairing.about(&gist_of_item(item)),
+        }),
     }
 }

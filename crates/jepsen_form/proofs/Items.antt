@@ -25,8 +25,10 @@ use Rattle.jepsen_form.specs.declared.item.MomentField.{MomentField}
 use Rattle.jepsen_form.specs.declared.fault.FormField.TheVariants as fields
 use Rattle.jepsen_form.specs.declared.fault.FormFault.{FormFault}
 use Rattle.jepsen_form.specs.declared.fault.FormFault.TheVariants.{BadType, NotAMap}
-use Rattle.jepsen_form.specs.Fields.{UnderValue, NoValue, AValue, ManyValues, IsUnderValue, missing, plain, vector, repeated, Fields, fields_of, two_of, by_two}
-use Rattle.jepsen_form.specs.Item.{the_one, at_most_one, is_there, value_stated, moment_of, end_of, the_stage, the_action, the_register, the_moment, if_told, value_told, by_process, change_of, edited_place, kind_stated, claim_of, edit_by, question_of, register_named, item_of, IsItem, no_map, of_map, text_at, lying_at, answer_with}
+use Rattle.jepsen_form.specs.declared.gist.Gist.{Gist}
+use Rattle.jepsen_form.specs.declared.gist.RefusedForm.{RefusedForm}
+use Rattle.jepsen_form.specs.Fields.{UnderValue, NoValue, AValue, NamedValue, ManyValues, IsUnderValue, missing, plain, vector, repeated, Fields, fields_of, two_of, by_two}
+use Rattle.jepsen_form.specs.Item.{the_one, at_most_one, is_there, value_stated, moment_of, end_of, the_stage, the_action, the_register, the_moment, if_told, value_told, by_process, change_of, edited_place, kind_stated, claim_of, edit_by, question_of, register_named, item_of, no_gist, value_in, gist_of, with_gist, IsItem, no_map, of_map, text_at, lying_at, answer_with}
 
 -- what is known of vectors and maps: there is a list of their members or pairs, and only one
 abbrev pub SomeMembers : Type 0
@@ -199,7 +201,7 @@ retold told old new retells tower found said =
     retold_process told old new retells tower found said (int_of piece))))
 
 -- two answers are equal but for the place of their text in memory
-abbrev Alike : ℕ × ℕ → Result Item FormFault → Result Item FormFault → Type 0
+abbrev Alike : {E : Type 0} → ℕ × ℕ → Result Item E → Result Item E → Type 0
 Alike place first second = lying_at place first ≡ lying_at place second
 
 lies : (place : ℕ × ℕ) (text : Bor (List ℕ)) → Retells (lying_at place) text (text_at place text)
@@ -219,6 +221,21 @@ same_item place tower found said first second same =
     ∙ ap (λ (bytes : List ℕ). item_of tower found said (record { ref_ptr = place; now = bytes })) same
     ∙ sym (retold (lying_at place) second (text_at place second) (lies place second) tower found said)
 
+-- what can be read of an element does not depend on where its text lies
+lies_beside : (place : ℕ × ℕ) (gist : Gist) (answer : Result Item FormFault) → lying_at place (with_gist gist answer) ≡ with_gist gist (lying_at place answer)
+lies_beside place gist (Err fault) = refl
+lies_beside place gist (Ok (items.Event event)) = refl
+lies_beside place gist (Ok (items.Amend of change)) = refl
+lies_beside place gist (Ok (items.Withdraw of)) = refl
+lies_beside place gist (Ok (items.Claim id kind)) = refl
+lies_beside place gist (Ok (items.Ask id)) = refl
+lies_beside place gist (Ok items.Skipped) = refl
+
+alike_beside : (place : ℕ × ℕ) (gist other : Gist) (first second : Result Item FormFault) → gist ≡ other → Alike place first second → Alike place (with_gist gist first) (with_gist other second)
+alike_beside place gist other first second same alike =
+    lies_beside place gist first ∙ ap (with_gist gist) alike
+    ∙ ap (λ (gist : Gist). with_gist gist (lying_at place second)) same ∙ sym (lies_beside place other second)
+
 -- what the pairs say under `:value`
 abbrev Says : List (ElementModel × ElementModel) → UnderValue → Type 0
 Says pairs said = IsUnderValue (given (values_of (codes ":value") pairs)) said
@@ -231,12 +248,26 @@ same_parts one place tower chosen pairs others said other_said first second same
     ∙ ap (λ (list : List (ElementModel × ElementModel)). lying_at place (item_of tower (fields_of chosen list) said second)) same
     ∙ ap (λ (said : UnderValue). lying_at place (item_of tower (fields_of chosen others) said second)) said_same
 
-pub at_most_one_item : OneMembers → OnePairs → (tower : TowerModel) (chosen : MomentField) (piece : ElementModel) (first second : Result Item FormFault) (place : ℕ × ℕ) → IsItem tower chosen piece first → IsItem tower chosen piece second → Alike place first second
+-- what can be read of a map is one thing, as what its value is
+same_gist : OneMembers → (tower : TowerModel) (chosen : MomentField) (pairs others : List (ElementModel × ElementModel)) (said other_said inner other_inner : UnderValue) → pairs ≡ others → Says pairs said → Says others other_said
+    → IsUnderValue (value_in said) inner → IsUnderValue (value_in other_said) other_inner → gist_of tower (fields_of chosen pairs) said inner ≡ gist_of tower (fields_of chosen others) other_said other_inner
+same_gist one tower chosen pairs others said other_said inner other_inner same says other_says within other_within =
+    let said_same = one_under_value one (given (values_of (codes ":value") others)) said other_said (subst (λ (list : List (ElementModel × ElementModel)). Says list said) same says) other_says in
+    let inner_same = one_under_value one (value_in other_said) inner other_inner (subst (λ (said : UnderValue). IsUnderValue (value_in said) inner) said_same within) other_within in
+    ap (λ (list : List (ElementModel × ElementModel)). gist_of tower (fields_of chosen list) said inner) same
+    ∙ ap (λ (said : UnderValue). gist_of tower (fields_of chosen others) said inner) said_same
+    ∙ ap (gist_of tower (fields_of chosen others) other_said) inner_same
+
+pub at_most_one_item : OneMembers → OnePairs → (tower : TowerModel) (chosen : MomentField) (piece : ElementModel) (first second : Result Item RefusedForm) (place : ℕ × ℕ) → IsItem tower chosen piece first → IsItem tower chosen piece second → Alike place first second
 at_most_one_item members pairs tower chosen piece first second place (no_map none) (no_map other) = refl
-at_most_one_item members pairs tower chosen piece first second place (no_map none) (of_map found said text has says same) = absurd (none found has)
-at_most_one_item members pairs tower chosen piece first second place (of_map found said text has says same) (no_map none) = absurd (none found has)
-at_most_one_item members pairs tower chosen piece first second place (of_map found said text has says same) (of_map others other_said other_text has_others other_says other_same) =
-    same_parts members place tower chosen found others said other_said text other_text (pairs piece found others has has_others) says other_says (same ∙ sym other_same)
+at_most_one_item members pairs tower chosen piece first second place (no_map none) (of_map found said inner text has says within same) = absurd (none found has)
+at_most_one_item members pairs tower chosen piece first second place (of_map found said inner text has says within same) (no_map none) = absurd (none found has)
+at_most_one_item members pairs tower chosen piece first second place (of_map found said inner text has says within same) (of_map others other_said other_inner other_text has_others other_says other_within other_same) =
+    let same_pairs = pairs piece found others has has_others in
+    alike_beside place (gist_of tower (fields_of chosen found) said inner) (gist_of tower (fields_of chosen others) other_said other_inner)
+    (item_of tower (fields_of chosen found) said text) (item_of tower (fields_of chosen others) other_said other_text)
+    (same_gist members tower chosen found others said other_said inner other_inner same_pairs says other_says within other_within)
+    (same_parts members place tower chosen found others said other_said text other_text same_pairs says other_says (same ∙ sym other_same))
 
 -- ---- an item whose text is lent from another place
 
@@ -251,10 +282,18 @@ is_of text old = record {
   skipped = refl;
 }
 
-pub elsewhere : (tower : TowerModel) (chosen : MomentField) (piece : ElementModel) (item : Result Item FormFault) (text : Bor (List ℕ)) → IsItem tower chosen piece item → text.now ≡ piece.text → IsItem tower chosen piece (answer_with text item)
+-- what can be read of an element does not depend on the text that its item lends
+is_of_beside : (text : Bor (List ℕ)) (gist : Gist) (answer : Result Item FormFault) → answer_with text (with_gist gist answer) ≡ with_gist gist (answer_with text answer)
+is_of_beside text gist (Err fault) = refl
+is_of_beside text gist (Ok item) = refl
+
+pub elsewhere : (tower : TowerModel) (chosen : MomentField) (piece : ElementModel) (item : Result Item RefusedForm) (text : Bor (List ℕ)) → IsItem tower chosen piece item → text.now ≡ piece.text → IsItem tower chosen piece (answer_with text item)
 elsewhere tower chosen piece item text (no_map none) same = no_map none
-elsewhere tower chosen piece item text (of_map pairs said old has says was) same =
-    subst (IsItem tower chosen piece) (sym (retold (answer_with text) old text (is_of text old) tower (fields_of chosen pairs) said)) (of_map pairs said text has says same)
+elsewhere tower chosen piece item text (of_map pairs said inner old has says within was) same =
+    let gist = gist_of tower (fields_of chosen pairs) said inner in
+    subst (IsItem tower chosen piece)
+    (sym (is_of_beside text gist (item_of tower (fields_of chosen pairs) said old) ∙ ap (with_gist gist) (retold (answer_with text) old text (is_of text old) tower (fields_of chosen pairs) said)))
+    (of_map pairs said inner text has says within same)
 
 -- ---- one item at least
 
@@ -276,27 +315,65 @@ under_value_of_values some (value ∷ other ∷ values) whole = (ManyValues, rep
 pub under_value_of_pairs : SomeMembers → ElementPairs → ElementValues → (piece : ElementModel) (pairs : List (ElementModel × ElementModel)) → HasPairs piece pairs → (said : UnderValue) × Says pairs said
 under_value_of_pairs some whole values piece pairs has = under_value_of_values some (values_of (codes ":value") pairs) (values (codes ":value") pairs (whole piece pairs has))
 
-abbrev SomeItem : TowerModel → MomentField → ElementModel → Type 0
-SomeItem tower chosen piece = (item : Result Item FormFault) × IsItem tower chosen piece item
+-- what is known of vectors: their members are elements
+abbrev pub ElementMembers : Type 0
+ElementMembers = (piece : ElementModel) (members : List ElementModel) → HasMembers piece members → AllByRecursion IsElement members
 
-item_of_map : SomeMembers → ElementPairs → ElementValues → (tower : TowerModel) (chosen : MomentField) (piece : ElementModel) (pairs : List (ElementModel × ElementModel)) → HasPairs piece pairs → SomeItem tower chosen piece
-item_of_map some whole values tower chosen piece pairs has =
+-- the value that is said is an element
+abbrev IsWholeIn : UnderValue → Type 0
+IsWholeIn NoValue = Unit {0}
+IsWholeIn (AValue value) = IsElement value
+IsWholeIn (NamedValue name value) = IsElement value
+IsWholeIn ManyValues = Unit {0}
+
+whole_of_two : (piece : ElementModel) (members : List ElementModel) → IsElement piece → AllByRecursion IsElement members → IsWholeIn (by_two piece (two_of members))
+whole_of_two piece [] whole each = whole
+whole_of_two piece (only ∷ []) whole each = whole
+whole_of_two piece (first ∷ second ∷ []) whole each = each.1.0
+whole_of_two piece (first ∷ second ∷ third ∷ members) whole each = whole
+
+whole_in_one : ElementMembers → (piece : ElementModel) (said : UnderValue) → IsElement piece → IsUnderValue (One piece) said → IsWholeIn said
+whole_in_one members piece said whole (plain none) = whole
+whole_in_one members piece said whole (vector list has is) = subst IsWholeIn is (whole_of_two piece list whole (members piece list has))
+
+whole_in_values : ElementMembers → (values : List ElementModel) (said : UnderValue) → AllByRecursion IsElement values → IsUnderValue (given values) said → IsWholeIn said
+whole_in_values members [] said whole missing = tt
+whole_in_values members (value ∷ []) said whole says = whole_in_one members value said whole.0 says
+whole_in_values members (value ∷ other ∷ values) said whole repeated = tt
+
+inner_of_whole : SomeMembers → (said : UnderValue) → IsWholeIn said → (inner : UnderValue) × IsUnderValue (value_in said) inner
+inner_of_whole some NoValue whole = (NoValue, missing)
+inner_of_whole some (AValue value) whole = under_value_of_one some value value.core.kind refl whole
+inner_of_whole some (NamedValue name value) whole = under_value_of_one some value value.core.kind refl whole
+inner_of_whole some ManyValues whole = (ManyValues, repeated)
+
+pub inner_of_pairs : SomeMembers → ElementMembers → ElementPairs → ElementValues → (piece : ElementModel) (pairs : List (ElementModel × ElementModel)) (said : UnderValue) → HasPairs piece pairs → Says pairs said
+    → (inner : UnderValue) × IsUnderValue (value_in said) inner
+inner_of_pairs some members whole values piece pairs said has says =
+    inner_of_whole some said (whole_in_values members (values_of (codes ":value") pairs) said (values (codes ":value") pairs (whole piece pairs has)) says)
+
+abbrev SomeItem : TowerModel → MomentField → ElementModel → Type 0
+SomeItem tower chosen piece = (item : Result Item RefusedForm) × IsItem tower chosen piece item
+
+item_of_map : SomeMembers → ElementMembers → ElementPairs → ElementValues → (tower : TowerModel) (chosen : MomentField) (piece : ElementModel) (pairs : List (ElementModel × ElementModel)) → HasPairs piece pairs → SomeItem tower chosen piece
+item_of_map some members whole values tower chosen piece pairs has =
     let text : Bor (List ℕ) = record { ref_ptr = (0, 0); now = piece.text } in
     let said = under_value_of_pairs some whole values piece pairs has in
-    (item_of tower (fields_of chosen pairs) said.0 text, of_map pairs said.0 text has said.1 refl)
+    let inner = inner_of_pairs some members whole values piece pairs said.0 has said.1 in
+    (with_gist (gist_of tower (fields_of chosen pairs) said.0 inner.0) (item_of tower (fields_of chosen pairs) said.0 text), of_map pairs said.0 inner.0 text has said.1 inner.1 refl)
 
 item_of_other : (tower : TowerModel) (chosen : MomentField) (piece : ElementModel) → (piece.core.kind ≡ kinds.Map → ⊥) → SomeItem tower chosen piece
-item_of_other tower chosen piece other = (Err NotAMap, no_map (λ pairs has. other has.kind))
+item_of_other tower chosen piece other = (with_gist no_gist (Err NotAMap), no_map (λ pairs has. other has.kind))
 
-item_by_kind : SomeMembers → SomePairs → ElementPairs → ElementValues → (tower : TowerModel) (chosen : MomentField) (piece : ElementModel) (kind : ElementKind) → piece.core.kind ≡ kind → IsElement piece → SomeItem tower chosen piece
-item_by_kind some some_pairs whole values tower chosen piece kinds.Map e is = let pairs = some_pairs piece is e in item_of_map some whole values tower chosen piece pairs.0 pairs.1
-item_by_kind some some_pairs whole values tower chosen piece kinds.Atom e is = item_of_other tower chosen piece (λ other. cc)
-item_by_kind some some_pairs whole values tower chosen piece kinds.Char e is = item_of_other tower chosen piece (λ other. cc)
-item_by_kind some some_pairs whole values tower chosen piece kinds.Text e is = item_of_other tower chosen piece (λ other. cc)
-item_by_kind some some_pairs whole values tower chosen piece kinds.List e is = item_of_other tower chosen piece (λ other. cc)
-item_by_kind some some_pairs whole values tower chosen piece kinds.Vector e is = item_of_other tower chosen piece (λ other. cc)
-item_by_kind some some_pairs whole values tower chosen piece kinds.Set e is = item_of_other tower chosen piece (λ other. cc)
-item_by_kind some some_pairs whole values tower chosen piece kinds.Tagged e is = item_of_other tower chosen piece (λ other. cc)
+item_by_kind : SomeMembers → ElementMembers → SomePairs → ElementPairs → ElementValues → (tower : TowerModel) (chosen : MomentField) (piece : ElementModel) (kind : ElementKind) → piece.core.kind ≡ kind → IsElement piece → SomeItem tower chosen piece
+item_by_kind some members some_pairs whole values tower chosen piece kinds.Map e is = let pairs = some_pairs piece is e in item_of_map some members whole values tower chosen piece pairs.0 pairs.1
+item_by_kind some members some_pairs whole values tower chosen piece kinds.Atom e is = item_of_other tower chosen piece (λ other. cc)
+item_by_kind some members some_pairs whole values tower chosen piece kinds.Char e is = item_of_other tower chosen piece (λ other. cc)
+item_by_kind some members some_pairs whole values tower chosen piece kinds.Text e is = item_of_other tower chosen piece (λ other. cc)
+item_by_kind some members some_pairs whole values tower chosen piece kinds.List e is = item_of_other tower chosen piece (λ other. cc)
+item_by_kind some members some_pairs whole values tower chosen piece kinds.Vector e is = item_of_other tower chosen piece (λ other. cc)
+item_by_kind some members some_pairs whole values tower chosen piece kinds.Set e is = item_of_other tower chosen piece (λ other. cc)
+item_by_kind some members some_pairs whole values tower chosen piece kinds.Tagged e is = item_of_other tower chosen piece (λ other. cc)
 
-pub at_least_one_item : SomeMembers → SomePairs → ElementPairs → ElementValues → (tower : TowerModel) (chosen : MomentField) (piece : ElementModel) → IsElement piece → SomeItem tower chosen piece
-at_least_one_item some some_pairs whole values tower chosen piece is = item_by_kind some some_pairs whole values tower chosen piece piece.core.kind refl is
+pub at_least_one_item : SomeMembers → ElementMembers → SomePairs → ElementPairs → ElementValues → (tower : TowerModel) (chosen : MomentField) (piece : ElementModel) → IsElement piece → SomeItem tower chosen piece
+at_least_one_item some members some_pairs whole values tower chosen piece is = item_by_kind some members some_pairs whole values tower chosen piece piece.core.kind refl is

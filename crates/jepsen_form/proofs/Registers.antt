@@ -21,8 +21,10 @@ use Rattle.jepsen_form.specs.declared.item.MomentField.{MomentField}
 use Rattle.jepsen_form.specs.declared.fault.FormField.TheVariants as fields
 use Rattle.jepsen_form.specs.declared.fault.FormFault.{FormFault}
 use Rattle.jepsen_form.specs.declared.fault.FormFault.TheVariants.{NoRegister}
+use Rattle.jepsen_form.specs.declared.gist.Gist.{Gist}
+use Rattle.jepsen_form.specs.declared.gist.RefusedForm.{RefusedForm}
 use Rattle.jepsen_form.specs.Fields.{Fields, fields_of, UnderValue, NoValue, AValue, NamedValue, ManyValues}
-use Rattle.jepsen_form.specs.Item.{the_one, is_there, the_stage, the_action, the_register, the_moment, if_told, value_told, event_of, by_process, change_of, edited_place, kind_stated, claim_of, edit_by, question_of, register_named, item_of, IsItem, no_map, of_map}
+use Rattle.jepsen_form.specs.Item.{the_one, is_there, the_stage, the_action, the_register, the_moment, if_told, value_told, event_of, by_process, change_of, edited_place, kind_stated, claim_of, edit_by, question_of, register_named, item_of, gist_of, with_gist, IsItem, no_map, of_map}
 use Rattle.jepsen_form.specs.Whole.{NamesBelow}
 
 -- a register has a number below this one
@@ -110,7 +112,12 @@ item_below tower found said text =
     (after _ Below (the_one fields.Ask found.ask) _ (whatever _) (λ name _. question_below tower name))
     (after _ Below (the_one fields.Process found.process) _ (whatever _) (λ piece _. process_below tower found said text (int_of piece))))
 
+beside_below : (count : ℕ) (gist : Gist) (answer : Result Item FormFault) → IfOk answer (NamesBelow count) → IfOk (with_gist gist answer) (NamesBelow count)
+beside_below count gist (Ok item) below = below
+beside_below count gist (Err fault) below = tt
+
 -- a register that an item names is one of the tower's
-pub names_below : (tower : TowerModel) (chosen : MomentField) (piece : ElementModel) (answer : Result Item FormFault) → IsItem tower chosen piece answer → IfOk answer (NamesBelow (length tower.registers))
+pub names_below : (tower : TowerModel) (chosen : MomentField) (piece : ElementModel) (answer : Result Item RefusedForm) → IsItem tower chosen piece answer → IfOk answer (NamesBelow (length tower.registers))
 names_below tower chosen piece answer (no_map none) = tt
-names_below tower chosen piece answer (of_map pairs said text has says same) = item_below tower (fields_of chosen pairs) said text
+names_below tower chosen piece answer (of_map pairs said inner text has says within same) =
+    beside_below (length tower.registers) (gist_of tower (fields_of chosen pairs) said inner) (item_of tower (fields_of chosen pairs) said text) (item_below tower (fields_of chosen pairs) said text)

@@ -6,8 +6,8 @@ use Rattle.edn_reader.specs.declared.view.VectorView.{VectorView}
 use Rattle.edn_reader.specs.Grammar.{ElementModel}
 use Rattle.edn_reader.specs.Pairs.{HasMembers}
 use Rattle.edn_reader.specs.Lent.{piece_of, MembersLeft, NextMember}
-use Rattle.edn_reader.specs.Given.{Missing, One, Many}
-use Rattle.jepsen_form.specs.Fields.{UnderValue, NoValue, AValue, ManyValues, IsUnderValue, missing, plain, vector, repeated, two_of, by_two}
+use Rattle.edn_reader.specs.Given.{One}
+use Rattle.jepsen_form.specs.Fields.{UnderValue, AValue, IsUnderValue, plain, vector, two_of, by_two}
 
 -- a view gives this element first, whatever members it has left
 abbrev Next : VectorView → Element → VectorView → Type 0

@@ -13,6 +13,7 @@ use Rattle.intervals.specs.declared.operation.RegId.{RegId}
 use Rattle.intervals.specs.declared.operation.Value.{Value}
 use Rattle.intervals.specs.declared.operation.Value.TheVariants.{Nil}
 use Rattle.std.specs.Option.{ok_or}
+use Rattle.std.specs.Result.{result_ok}
 use Rattle.tower_file.specs.Contents.{TowerModel, number_of}
 use Rattle.intervals.specs.declared.claim.Kind.{Kind}
 use Rattle.tower_file.specs.Stating.{stated_value, stated_kind}
@@ -28,6 +29,10 @@ use Rattle.jepsen_form.specs.declared.fault.FormField.{FormField}
 use Rattle.jepsen_form.specs.declared.fault.FormField.TheVariants as fields
 use Rattle.jepsen_form.specs.declared.fault.FormFault.{FormFault}
 use Rattle.jepsen_form.specs.declared.fault.FormFault.TheVariants.{NotAMap, MissingField, DuplicateField, BadType, UnsupportedF, BadValue, BadMoment, NoRegister}
+use Rattle.jepsen_form.specs.declared.gist.Gist.{Gist}
+use Rattle.jepsen_form.specs.declared.gist.RefusedForm.{RefusedForm}
+use Rattle.jepsen_form.specs.declared.gist.Written.{Written}
+use Rattle.jepsen_form.specs.declared.gist.Written.TheVariants.{Nothing, Known, Unread}
 use Rattle.jepsen_form.specs.Fields.{Fields, fields_of, UnderValue, NoValue, AValue, NamedValue, ManyValues, IsUnderValue}
 
 -- the value of a field that must be there once: F2 where it is missing, F3 where it is there more than once
@@ -173,10 +178,14 @@ change_of found text =
 abbrev pub edited_place : Fields → Result ℕ FormFault
 edited_place found = the_one fields.Of found.of >>= place_of
 
+-- the register that a claim names, or its fault
+abbrev pub claimed_register : TowerModel → Fields → Result RegId FormFault
+claimed_register tower found = the_one fields.Register found.register >>= register_named tower
+
 -- the claim of a kind for a register, or its first fault: the register and the kind are read in this order
 abbrev pub claim_of : TowerModel → Fields → Result Item FormFault
 claim_of tower found =
-    the_one fields.Register found.register >>= register_named tower >>= (λ register.
+    claimed_register tower found >>= (λ register.
     the_one fields.Claimed found.claimed >>= kind_stated >>= (λ kind.
     Ok (items.Claim register kind)))
 
@@ -205,13 +214,121 @@ item_of tower found said text =
     else if is_there found.ask then the_one fields.Ask found.ask >>= question_of tower
     else the_one fields.Process found.process >>= (λ piece. by_process tower found said text (int_of piece))
 
--- the item of an element, or its first fault, for a tower and the moment's field: F1 where it is no map, else that of
--- its pairs (`item_of`)
-pub data IsItem (tower : TowerModel) (chosen : MomentField) : ElementModel → Result Item FormFault → Type 0 where
-  no_map : {piece : ElementModel} → ((pairs : List (ElementModel × ElementModel)) → HasPairs piece pairs → ⊥) → IsItem tower chosen piece (Err NotAMap)
-  of_map : {piece : ElementModel} (pairs : List (ElementModel × ElementModel)) (said : UnderValue) (text : Bor (List ℕ)) → HasPairs piece pairs
-      → IsUnderValue (given (values_of (codes ":value") pairs)) said → text.now ≡ piece.text
-      → IsItem tower chosen piece (item_of tower (fields_of chosen pairs) said text)
+-- ---- what can be read of an element that its form refuses
+
+-- nothing can be read of it
+abbrev pub no_gist : Gist
+no_gist = record { answers = None; of = None; register = None; written = Nothing; claims = false }
+
+-- the value that was read, or that none could be
+abbrev pub known_or_unread : Result Value FormFault → Written
+known_or_unread (Ok value) = Known value
+known_or_unread (Err fault) = Unread
+
+-- the process that a field under `:process` says, or none
+abbrev pub process_said : Given ElementModel → Option ℤ
+process_said Missing = None
+process_said (One piece) = int_of piece
+process_said Many = None
+
+-- the process whose invocation an event of this stage answers, or none: an invocation answers none, nor does an event
+-- whose stage cannot be read
+abbrev pub process_answered : Result Stage FormFault → Option ℤ → Option ℤ
+process_answered (Ok stages.Invoke) process = None
+process_answered (Ok stages.Ok) process = process
+process_answered (Ok stages.Fail) process = process
+process_answered (Ok stages.Info) process = process
+process_answered (Err fault) process = None
+
+-- the field of which a value is that is said under `:value`, with a register's name or without
+abbrev pub value_in : UnderValue → Given ElementModel
+value_in NoValue = Missing
+value_in (AValue value) = One value
+value_in (NamedValue name value) = One value
+value_in ManyValues = Many
+
+-- what an event would have written: nothing where it is a `:read`, a `:fail` or an `:info`, else the value, which of a
+-- pair is the second of the two, the new value. The last argument is what the value is (`value_in`).
+abbrev pub written_by : Result Stage FormFault → Result Action FormFault → UnderValue → Written
+written_by (Ok stages.Fail) action inner = Nothing
+written_by (Ok stages.Info) action inner = Nothing
+written_by (Ok stages.Invoke) (Ok Read) inner = Nothing
+written_by (Ok stages.Ok) (Ok Read) inner = Nothing
+written_by (Err fault) (Ok Read) inner = Nothing
+written_by (Ok stages.Invoke) (Ok Write) inner = known_or_unread (the_value inner)
+written_by (Ok stages.Ok) (Ok Write) inner = known_or_unread (the_value inner)
+written_by (Err fault) (Ok Write) inner = known_or_unread (the_value inner)
+written_by (Ok stages.Invoke) (Err other) inner = known_or_unread (the_value inner)
+written_by (Ok stages.Ok) (Err other) inner = known_or_unread (the_value inner)
+written_by (Err fault) (Err other) inner = known_or_unread (the_value inner)
+
+-- a pair of two values, and no register's name, is under `:value` where the name is none and the value is no pair
+abbrev pub register_of_pair : TowerModel → UnderValue → Option RegId
+register_of_pair tower NoValue = None
+register_of_pair tower (AValue value) = result_ok (only_register tower)
+register_of_pair tower (NamedValue name value) = None
+register_of_pair tower ManyValues = None
+
+-- the register of an event, by that which is read: where the tower has none of this name and the `:f` is an other word
+-- than `:read` and `:write`, what is there may be a pair of two values of the tower's only register
+abbrev pub register_or : TowerModel → Result Action FormFault → UnderValue → Result RegId FormFault → Option RegId
+register_or tower action inner (Ok register) = Some register
+register_or tower (Ok action) inner (Err fault) = None
+register_or tower (Err UnsupportedF) inner (Err fault) = register_of_pair tower inner
+register_or tower (Err other) inner (Err fault) = None
+
+-- what can be read of an event; the last argument is what its value is (`value_in`)
+abbrev pub event_gist : TowerModel → Fields → UnderValue → UnderValue → Gist
+event_gist tower found said inner = record {
+  answers = process_answered (the_stage found.stage) (process_said found.process);
+  of = None;
+  register = register_or tower (the_action found.action) inner (the_register tower said);
+  written = written_by (the_stage found.stage) (the_action found.action) inner;
+  claims = false;
+}
+
+-- what an optional value that was read writes
+abbrev pub written_if : Result (Option Value) FormFault → Written
+written_if (Ok None) = Nothing
+written_if (Ok (Some value)) = Known value
+written_if (Err fault) = Unread
+
+-- whether the keyword under `:edit` is that of a claim
+abbrev pub is_claim : Given ElementModel → Bool
+is_claim Missing = false
+is_claim (One keyword) = is_word (codes ":claim") keyword
+is_claim Many = false
+
+-- what can be read of an edit
+abbrev pub edit_gist : TowerModel → Fields → Gist
+edit_gist tower found = record {
+  answers = None;
+  of = result_ok (edited_place found);
+  register = result_ok (claimed_register tower found);
+  written = written_if (at_most_one fields.Value value_stated found.value);
+  claims = is_claim found.edit;
+}
+
+-- what can be read of a map: of an edit, of an event, and nothing of a question
+abbrev pub gist_of : TowerModel → Fields → UnderValue → UnderValue → Gist
+gist_of tower found said inner =
+    if is_there found.edit then edit_gist tower found
+    else if is_there found.ask then no_gist
+    else event_gist tower found said inner
+
+-- an item, or its fault together with what can be read of the element
+abbrev pub with_gist : Gist → Result Item FormFault → Result Item RefusedForm
+with_gist gist (Ok item) = Ok item
+with_gist gist (Err fault) = Err (record { fault = fault; gist = gist })
+
+-- the item of an element, or its first fault with what can be read all the same, for a tower and the moment's field: F1
+-- where it is no map, else that of its pairs (`item_of`, `gist_of`)
+pub data IsItem (tower : TowerModel) (chosen : MomentField) : ElementModel → Result Item RefusedForm → Type 0 where
+  no_map : {piece : ElementModel} → ((pairs : List (ElementModel × ElementModel)) → HasPairs piece pairs → ⊥)
+      → IsItem tower chosen piece (with_gist no_gist (Err NotAMap))
+  of_map : {piece : ElementModel} (pairs : List (ElementModel × ElementModel)) (said inner : UnderValue) (text : Bor (List ℕ)) → HasPairs piece pairs
+      → IsUnderValue (given (values_of (codes ":value") pairs)) said → IsUnderValue (value_in said) inner → text.now ≡ piece.text
+      → IsItem tower chosen piece (with_gist (gist_of tower (fields_of chosen pairs) said inner) (item_of tower (fields_of chosen pairs) said text))
 
 -- ---- where a text lies
 
@@ -225,7 +342,7 @@ lent_at place (Answer text) = Answer (text_at place text)
 lent_at place (Amendment text) = Amendment (text_at place text)
 
 -- an item with its text at this place in memory; a fault as it is
-abbrev pub lying_at : ℕ × ℕ → Result Item FormFault → Result Item FormFault
+abbrev pub lying_at : {E : Type 0} → ℕ × ℕ → Result Item E → Result Item E
 lying_at place (Err fault) = Err fault
 lying_at place (Ok (items.Event event)) = Ok (items.Event (record event { text = text_at place event.text }))
 lying_at place (Ok (items.Amend of change)) = Ok (items.Amend of (record change { lent = lent_at place change.lent }))
@@ -251,6 +368,6 @@ item_with text (items.Ask id) = items.Ask id
 item_with text items.Skipped = items.Skipped
 
 -- an item with this text in place of its own; a fault as it is
-abbrev pub answer_with : Bor (List ℕ) → Result Item FormFault → Result Item FormFault
+abbrev pub answer_with : {E : Type 0} → Bor (List ℕ) → Result Item E → Result Item E
 answer_with text (Err fault) = Err fault
 answer_with text (Ok item) = Ok (item_with text item)

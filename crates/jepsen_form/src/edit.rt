@@ -2,7 +2,7 @@
 
 ghost use Rattle.std.specs.Prelude.{◌≡◌, IfOk};
 ghost use Rattle.edn_reader.specs.Lent.{piece_of};
-ghost use Rattle.jepsen_form.specs.Item.{edit_by, edited_place, change_of};
+ghost use Rattle.jepsen_form.specs.Item.{edit_by, edited_place, change_of, claimed_register};
 ghost use Rattle.jepsen_form.specs.Form.{seen_all};
 ghost use Rattle.jepsen_form.specs.Whole.{IsWhole};
 
@@ -12,7 +12,7 @@ use crate::form::EventFields;
 use crate::item::Item;
 use crate::said::find_register;
 use edn_reader::Element;
-use intervals::{Change, Lent};
+use intervals::{Change, Lent, RegId};
 use tower_file::Tower;
 
 /// The edit that a keyword names, or its first fault.
@@ -33,7 +33,7 @@ pub fn read_edit<'t>(
         let of = place_edited(form)?;
         Ok(Item::Withdraw { of })
     } else if keyword.is_keyword(b":claim") {
-        let register = find_register(&needed(&form.register, FormField::Register)?, tower)?;
+        let register = register_claimed(form, tower)?;
         let kind = read_kind(&needed(&form.claimed, FormField::Claimed)?)?;
         Ok(Item::Claim(register, kind))
     } else {
@@ -41,10 +41,18 @@ pub fn read_edit<'t>(
     }
 }
 
-fn place_edited(form: &EventFields) -> Result<u64, FormFault>
+/// The place of the invocation that an edit names.
+pub fn place_edited(form: &EventFields) -> Result<u64, FormFault>
     ensures { result ≡ edited_place (seen_all form.now) }
 {
     read_place(&needed(&form.of, FormField::Of)?)
+}
+
+/// The register that a claim names.
+pub fn register_claimed(form: &EventFields, tower: &Tower) -> Result<RegId, FormFault>
+    ensures { result ≡ claimed_register tower.now (seen_all form.now) }
+{
+    find_register(&needed(&form.register, FormField::Register)?, tower)
 }
 
 fn read_change<'t>(form: &EventFields<'t>, text: &'t [u8]) -> Result<Change<'t>, FormFault>

@@ -58,13 +58,13 @@ fn event_by<'t>(
     }))
 }
 
-fn stage_in(field: &Field) -> Result<Stage, FormFault>
+pub fn stage_in(field: &Field) -> Result<Stage, FormFault>
     ensures { result ≡ the_stage (seen field.now) }
 {
     read_stage(&needed(field, FormField::Stage)?)
 }
 
-fn action_in(field: &Field) -> Result<Action, FormFault>
+pub fn action_in(field: &Field) -> Result<Action, FormFault>
     ensures { result ≡ the_action (seen field.now) }
 {
     read_action(&needed(field, FormField::Action)?)

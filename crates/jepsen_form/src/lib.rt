@@ -1,9 +1,9 @@
 //! Reads one element of a trace: an event of a process, an edit, a question, or nothing.
 //!
 //! A trace is EDN as Jepsen writes histories, in this project's profile (docs/FORMATS.md). The fields of a
-//! map are read in one fixed order, and the first that is wrong gives the fault, from F1 to F8. Tags and
-//! fields of other names change nothing; events of a process that is no integer are skipped. An item lends
-//! the text of its element, and no call takes memory.
+//! map are read in one fixed order, and the first that is wrong gives the fault, from F1 to F8; with it comes the gist
+//! of the element, which is what can be read of it all the same. Tags and fields of other names change nothing; events
+//! of a process that is no integer are skipped. An item lends the text of its element, and no call takes memory.
 //!
 //! ```text
 //! let element = reader.next()?;        // {:process 0 :type :invoke :f :write :value 5 :index 2}
@@ -22,11 +22,13 @@ mod element;
 mod event;
 mod fault;
 mod form;
+mod gist;
 mod item;
 pub mod laws;
 mod read;
 mod said;
 
 pub use fault::{FormFault, FormField};
+pub use gist::{Gist, RefusedForm, Written};
 pub use item::{Action, Event, Item, MomentField, Stage};
 pub use read::{read_first, read_item};

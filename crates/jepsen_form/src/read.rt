@@ -14,18 +14,20 @@ use crate::element::{is_given, needed};
 use crate::event::read_event;
 use crate::fault::{FormFault, FormField};
 use crate::form::{EventFields, fill, no_fields, note};
+use crate::gist::{RefusedForm, no_map, with_gist};
 use crate::item::{Item, MomentField};
 use crate::said::find_register;
 use edn_reader::laws::{members_of_vector, pairs_of_map};
 use edn_reader::{Element, FlatMap, FlatPart};
 use tower_file::Tower;
 
-/// The item of an element, or the first fault that it has in reading order. It takes no memory.
+/// The item of an element, or the first fault that it has in reading order, with what can be read all the same. It takes
+/// no memory.
 pub fn read_item<'t>(
     element: Element<'t>,
     field: MomentField,
     tower: &Tower,
-) -> Result<Item<'t>, FormFault>
+) -> Result<Item<'t>, RefusedForm>
     ensures item { IsItem tower.now field (piece_of element.entry) result }
     ensures whole { IfOk result IsWhole }
 {
@@ -35,9 +37,9 @@ pub fn read_item<'t>(
         Some(map) => {
             let mut form = no_fields();
             fill(&mut form, &map, field);
-            item_in(&form, element.text(), tower)
+            with_gist(item_in(&form, element.text(), tower), &form, tower)
         }
-        None => Err(FormFault::NotAMap),
+        None => no_map(),
     }
 }
 
@@ -50,7 +52,7 @@ pub fn read_first<'t>(
     place: usize,
     field: MomentField,
     tower: &Tower,
-) -> Option<(Element<'t>, Result<Item<'t>, FormFault>)>
+) -> Option<(Element<'t>, Result<Item<'t>, RefusedForm>)>
     requires { place + length bytes.now < 2 ^ 64 }
     ensures first { IfSome result (λ found. BeginsWithElement bytes.entry.now place (piece_of found.0)) }
     ensures item { IfSome result (λ found. IsItem tower.now field (piece_of found.0) found.1) }
@@ -65,7 +67,7 @@ pub fn read_first<'t>(
             FlatPart::Pair(key, value) => note(&mut form, &key, value, field),
             FlatPart::End(element) => {
                 let item = item_in(&form, element.text(), tower);
-                return Some((element, item));
+                return Some((element, with_gist(item, &form, tower)));
             }
             FlatPart::Other => return None,
         }

@@ -7,7 +7,7 @@ ghost use Rattle.edn_reader.specs.Given.{One, seen};
 ghost use Rattle.edn_reader.specs.Lent.{piece_of, MembersLeft};
 ghost use Rattle.jepsen_form.specs.Fields.{UnderValue, IsUnderValue, two_of};
 ghost use Rattle.jepsen_form.specs.Form.{under_value};
-ghost use Rattle.jepsen_form.specs.Item.{register_named, only_register, the_register, the_value, value_told};
+ghost use Rattle.jepsen_form.specs.Item.{register_named, only_register, the_register, the_value, value_in, value_told};
 
 use crate::element::read_value;
 use crate::fault::{FormFault, FormField};
@@ -66,6 +66,17 @@ fn the_two<'t>(vector: &VectorView<'t>) -> Option<(Element<'t>, Element<'t>)>
     }
 }
 
+/// What the value is that is said, with a register's name or without.
+pub fn inner_of<'t>(said: &ParsedValue<'t>) -> ParsedValue<'t>
+    ensures { (inner : UnderValue) → IsUnderValue (value_in (under_value said.now)) inner → under_value result ≡ inner }
+{
+    match said {
+        ParsedValue::Nothing => ParsedValue::Nothing,
+        ParsedValue::Plain(value) | ParsedValue::Named(_, value) => said_in(value),
+        ParsedValue::Repeated => ParsedValue::Repeated,
+    }
+}
+
 /// The register that an event is about.
 pub fn register_by(said: &ParsedValue, tower: &Tower) -> Result<RegId, FormFault>
     ensures { result ≡ the_register tower.now (under_value said.now) }
@@ -77,7 +88,8 @@ pub fn register_by(said: &ParsedValue, tower: &Tower) -> Result<RegId, FormFault
     }
 }
 
-fn sole_register(tower: &Tower) -> Result<RegId, FormFault>
+/// The register of a tower of one register.
+pub fn sole_register(tower: &Tower) -> Result<RegId, FormFault>
     ensures { result ≡ only_register tower.now }
 {
     if tower.len() == 1 {
@@ -107,7 +119,8 @@ pub fn value_by(said: &ParsedValue, stage: Stage, action: Action) -> Result<Valu
     }
 }
 
-fn given_by(said: &ParsedValue) -> Result<Value, FormFault>
+/// The value that is said, whatever register it is of.
+pub fn given_by(said: &ParsedValue) -> Result<Value, FormFault>
     ensures { result ≡ the_value (under_value said.now) }
 {
     match said {

@@ -21,7 +21,7 @@ spot_at spots number = slice_index_or spots number (record { start = 0; end = 0;
 
 -- what a log notes of the element of this number, as findings: a refusal is one, an answer is none
 abbrev pub found_of_what : List Location → ℕ → What → List Problem
-found_of_what spots event (whats.Refused code) = record { what = amiss.Refused event code; spot = spot_at spots event } ∷ []
+found_of_what spots event (whats.Refused left_out) = record { what = amiss.Refused event left_out.code; spot = spot_at spots event } ∷ []
 found_of_what spots event (whats.Answered register answer) = []
 
 -- a log line as findings: a refusal is one, an answer is none

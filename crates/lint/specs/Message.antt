@@ -25,7 +25,7 @@ use Rattle.lint.specs.declared.finding.Amiss.TheVariants as amiss
 use Rattle.lint.specs.declared.finding.Note.{Note}
 use Rattle.lint.specs.declared.finding.Note.TheVariants as notes
 use Rattle.lint.specs.Grade.{finding_code}
-use Rattle.lint.specs.declared.sentences.TheConstants.{SKIPPED, NO_OPERATION, UNUSED, NO_VALUE, NEAR_FIELD, UNREAD, UNANSWERED, SILENT_WRITER, SAME_MOMENT, OUT_OF_PROPORTION, RESTS, RESTS_ON_EDIT, E1_TRUNCATED, E2_STRAY_CLOSE, E3_WRONG_CLOSE, E4_TOO_DEEP, E5_ODD_MAP, E6_TAG_WITHOUT_ELEMENT, E7_MEMORY, AT_FIRST}
+use Rattle.lint.specs.declared.sentences.TheConstants.{SKIPPED, NO_OPERATION, UNUSED, NO_VALUE, NEAR_FIELD, UNREAD, UNANSWERED, SILENT_WRITER, SAME_MOMENT, OUT_OF_PROPORTION, RESTS, RESTS_ON_EDIT, RESTS_ON_UNREAD, E1_TRUNCATED, E2_STRAY_CLOSE, E3_WRONG_CLOSE, E4_TOO_DEEP, E5_ODD_MAP, E6_TAG_WITHOUT_ELEMENT, E7_MEMORY, AT_FIRST}
 
 -- an operation as it is printed: the number of its trace, a colon, and the place of its invocation
 abbrev pub operation_text : OpId → List ℕ
@@ -92,8 +92,9 @@ note_words notes.Unanswered = UNANSWERED.now
 note_words (notes.SilentWriter process) = SILENT_WRITER.now
 note_words (notes.SameMoment event) = SAME_MOMENT.now
 note_words notes.OutOfProportion = OUT_OF_PROPORTION.now
-note_words (notes.Rests read) = RESTS.now
+note_words (notes.Rests operation) = RESTS.now
 note_words (notes.RestsOnEdit operation) = RESTS_ON_EDIT.now
+note_words (notes.RestsOnUnread operation) = RESTS_ON_UNREAD.now
 
 -- what the words for a note end with: a field, a process, an event or an operation
 abbrev pub noted_text : Note → List ℕ
@@ -107,8 +108,9 @@ noted_text notes.Unanswered = []
 noted_text (notes.SilentWriter process) = signed_decimal process
 noted_text (notes.SameMoment event) = decimal event
 noted_text notes.OutOfProportion = []
-noted_text (notes.Rests read) = operation_text read
+noted_text (notes.Rests operation) = operation_text operation
 noted_text (notes.RestsOnEdit operation) = operation_text operation
+noted_text (notes.RestsOnUnread operation) = operation_text operation
 
 -- what has a value, as it is printed: an operation, or the register at first
 abbrev pub value_holder_text : Holder → List ℕ

@@ -79,18 +79,13 @@ fn find_all(
 {
     let mut traces = Vec::new(context.alloc);
     for number in 0..texts.len() {
-        traces.push(find_in(context, number, texts[number], &logs[number])?)?;
+        traces.push(find_in(context, texts[number], &logs[number])?)?;
     }
     Ok(traces)
 }
 
 /// The findings of one trace: its refusals in the order of its elements, and where it broke.
-fn find_in(
-    context: &Context,
-    feeder: usize,
-    text: &[u8],
-    log: &Log,
-) -> Result<TraceFindings, AllocError>
+fn find_in(context: &Context, text: &[u8], log: &Log) -> Result<TraceFindings, AllocError>
     requires named { NamesElements text.now log.now }
     ensures found { IfOk result (IsFoundIn text.now log.now) }
 {
@@ -102,7 +97,7 @@ fn find_in(
         notes,
         unfinished,
         processes,
-    } = notes_of(context, feeder, text, &found, log.lines.as_slice())?;
+    } = notes_of(context, text, &found, log.lines.as_slice())?;
     Ok(TraceFindings {
         spots: found.spots,
         findings,
@@ -134,8 +129,8 @@ fn finding_of_line(spots: &[Location], line: &Line) -> Option<Problem>
     ensures { option_to_list result ≡ found_of_line spots.now line.now }
 {
     match line.what {
-        What::Refused(code) => Some(Problem {
-            what: Amiss::Refused(line.event, code),
+        What::Refused(left_out) => Some(Problem {
+            what: Amiss::Refused(line.event, left_out.code),
             spot: spots[line.event as usize],
         }),
         What::Answered(..) => None,

@@ -49,10 +49,14 @@ pub enum Note {
     SameMoment(u64),
     /// A moment is at least 1000 times the one before it and the one after it.
     OutOfProportion,
-    /// A write is refused whose value this read returned; the read shows that its register fails.
+    /// An element is left out that writes the value which this operation read or wrote; the operation shows that its
+    /// register fails.
     Rests(OpId),
-    /// An edit of this operation is refused, which shows that its register fails; or a claim of that register is.
+    /// An answer or an edit of this operation is left out, which shows that its register fails; or a claim of that
+    /// register is.
     RestsOnEdit(OpId),
+    /// An element is left out whose value cannot be read, and this operation shows that its register fails.
+    RestsOnUnread(OpId),
 }
 
 /// How grave a finding is.
@@ -78,6 +82,7 @@ pub struct Problem {
 pub struct TraceFindings {
     pub spots: Vec<Location>,
     pub findings: Vec<Problem>,
+    /// Those that say that a failure rests on what was left out (L8) come first.
     pub notes: Vec<Problem>,
     /// For each element, whether it is an invocation that has neither an `:ok` nor a `:fail`.
     pub unfinished: Vec<bool>,
@@ -143,7 +148,7 @@ impl Note {
             Note::Unanswered => "L5",
             Note::SilentWriter(_) => "L6",
             Note::SameMoment(_) | Note::OutOfProportion => "L7",
-            Note::Rests(_) | Note::RestsOnEdit(_) => "L8",
+            Note::Rests(_) | Note::RestsOnEdit(_) | Note::RestsOnUnread(_) => "L8",
         }
     }
 }

@@ -5,6 +5,7 @@ use crate::finding::{Amiss, Findings, Grade, Note, Problem};
 use crate::head::{push_head, push_place};
 use crate::hint::hint_of;
 use crate::message::{field_word, push_id, tower_word};
+use crate::notes::rests;
 use crate::snippet::{push_mark, push_plain, width_of};
 use crate::source::SourceText;
 use crate::suggest::{meant_in_element, meant_in_tower, meant_key};
@@ -61,7 +62,7 @@ pub fn push_human(
     push_totals(text, &tally)
 }
 
-/// Adds the findings of a trace, and then its notes.
+/// Adds what the failures of a trace rest on, its findings, and then its other notes.
 fn push_trace(
     text: &mut String,
     view: &View,
@@ -71,12 +72,24 @@ fn push_trace(
     let Some(found) = view.found.traces.get(trace) else {
         return Ok(());
     };
+    let (first, others) = rests_and_others(found.notes.as_slice());
+    push_cases(text, view, trace, first, tally)?;
     push_cases(text, view, trace, found.findings.as_slice(), tally)?;
-    push_cases(text, view, trace, found.notes.as_slice(), tally)?;
+    push_cases(text, view, trace, others, tally)?;
     if found.findings.is_empty() && found.notes.is_empty() {
         return Ok(());
     }
     push_hints(text, view, trace, found.spots.is_empty())
+}
+
+/// The notes that say what a failure rests on, which come first, and the others.
+fn rests_and_others(notes: &[Problem]) -> (&[Problem], &[Problem]) {
+    for at in 0..notes.len() {
+        if !rests(&notes[at]) {
+            return (&notes[..at], &notes[at..]);
+        }
+    }
+    (notes, &[])
 }
 
 /// What may help with a file in which something is amiss: by its first bytes, or since it is a copy of an earlier one.
@@ -259,10 +272,14 @@ fn label_of(note: &Note) -> &'static str {
         Note::Skipped => " skipped",
         Note::NoValue => " taken as nil",
         Note::Unanswered => " never answered",
-        Note::Rests(_) | Note::RestsOnEdit(_) => " left out, and the verdict rests on it",
+        Note::Rests(_) | Note::RestsOnEdit(_) | Note::RestsOnUnread(_) => {
+            " left out, and the verdict rests on it"
+        }
         Note::Unused => " no operation",
         Note::SilentWriter(_) => " no event",
-        Note::SameMoment(_) | Note::NoOperation | Note::OutOfProportion => " taken as it stands",
+        Note::SameMoment(_) => " the same moment",
+        Note::OutOfProportion => " out of proportion",
+        Note::NoOperation => " taken as it stands",
     }
 }
 
@@ -285,7 +302,10 @@ fn beside(trace: usize, note: &Note) -> Option<OpId> {
             feeder,
             event: *event,
         }),
-        (Note::Rests(operation) | Note::RestsOnEdit(operation), _) => Some(*operation),
+        (
+            Note::Rests(operation) | Note::RestsOnEdit(operation) | Note::RestsOnUnread(operation),
+            _,
+        ) => Some(*operation),
         _ => None,
     }
 }

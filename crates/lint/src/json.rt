@@ -126,6 +126,7 @@ fn name_of_note(note: &Note) -> &'static str {
         Note::OutOfProportion => "OutOfProportion",
         Note::Rests(_) => "Rests",
         Note::RestsOnEdit(_) => "RestsOnEdit",
+        Note::RestsOnUnread(_) => "RestsOnUnread",
     }
 }
 

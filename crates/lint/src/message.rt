@@ -47,6 +47,7 @@ fn note_words(note: &Note) -> &'static str
         Note::OutOfProportion => OUT_OF_PROPORTION,
         Note::Rests(_) => RESTS,
         Note::RestsOnEdit(_) => RESTS_ON_EDIT,
+        Note::RestsOnUnread(_) => RESTS_ON_UNREAD,
     }
 }
 
@@ -71,8 +72,9 @@ fn push_noted(text: &mut String, note: &Note) -> Result<(), AllocError>
         Note::Unread(Some(field)) => text.push_str(tower_word(*field)),
         Note::SilentWriter(process) => write!(text, "{process}"),
         Note::SameMoment(event) => write!(text, "{event}"),
-        Note::Rests(read) => push_id(text, *read),
+        Note::Rests(operation) => push_id(text, *operation),
         Note::RestsOnEdit(operation) => push_id(text, *operation),
+        Note::RestsOnUnread(operation) => push_id(text, *operation),
         Note::Unread(None)
         | Note::Skipped
         | Note::NoOperation

@@ -4,9 +4,8 @@ use crate::finding::{Amiss, Note, Problem};
 use crate::nearest::{is_absent, meant_by};
 use crate::suspect::Suspects;
 use edn_reader::{Element, Field, MapView};
-use intervals::OpId;
 use jepsen_form::{Action, Event, FormField, Item, MomentField, Stage, read_item};
-use logs::{Code, Line, What};
+use logs::{Code, LeftOut, Line, What};
 use places::{Cursor, Elements, Location, spot_in, spot_of_one};
 use std::alloc::{AllocError, Global};
 use std::collections::{BTreeMap, BTreeSet};
@@ -18,7 +17,7 @@ pub struct Context<'a> {
     pub alloc: Global,
     pub tower: &'a Tower,
     pub field: MomentField,
-    pub suspects: &'a Suspects,
+    pub suspects: &'a Suspects<'a>,
 }
 
 /// What is noted of a trace.
@@ -54,13 +53,12 @@ struct Timed {
     number: u64,
 }
 
-/// An element of a trace, by its number, and the code by which it is refused, if it is.
+/// An element of a trace, by its number, and why it was left out, if it was.
 #[derive(Clone, Copy)]
 struct NumberedElement<'a> {
-    feeder: usize,
     number: u64,
     element: &'a Element<'a>,
-    refused: Option<Code>,
+    refused: Option<LeftOut>,
 }
 
 /// The fields of an event for which a field that is not read may have been meant.
@@ -69,7 +67,6 @@ const MEANT: &[FormField] = &[FormField::Process, FormField::Stage, FormField::V
 /// The notes of a trace, by place. The elements are those of the text, and the lines those of its log.
 pub fn notes_of(
     context: &Context,
-    feeder: usize,
     text: &[u8],
     found: &Elements,
     lines: &[Line],
@@ -81,7 +78,6 @@ pub fn notes_of(
         let number = at as u64;
         ahead = lines_from(ahead, number);
         let seen = NumberedElement {
-            feeder,
             number,
             element: &found.elements[at],
             refused: refused_by(ahead, number),
@@ -99,11 +95,11 @@ fn lines_from<'a, 't>(lines: &'a [Line<'t>], number: u64) -> &'a [Line<'t>] {
     }
 }
 
-/// The code by which the first of the lines says that the element of this number is refused, if it does.
-fn refused_by(lines: &[Line], number: u64) -> Option<Code> {
+/// Why the element of this number was left out, if the first of the lines says that it was.
+fn refused_by(lines: &[Line], number: u64) -> Option<LeftOut> {
     let line = lines.first()?;
     match line.what {
-        What::Refused(code) if line.event == number => Some(code),
+        What::Refused(left_out) if line.event == number => Some(left_out),
         _ => None,
     }
 }
@@ -147,13 +143,18 @@ impl<'a> TraceSoFar<'a> {
         seen: &NumberedElement,
     ) -> Result<(), AllocError> {
         self.noted.unfinished.push(false)?;
+        if let Some(left_out) = seen.refused {
+            if let Some(note) = context.suspects.note_of(&left_out.about) {
+                self.note(seen.number, note)?;
+            }
+        }
         let Some(map) = seen.element.as_map() else {
             return Ok(());
         };
         match read_item(*seen.element, context.field, context.tower) {
             Ok(Item::Event(event)) => self.look_at_event(context, cursor, &map, &event, seen),
             Ok(Item::Skipped) => self.look_at_skipped(&map, seen.number),
-            Ok(item) => self.look_at_edit(context.suspects, &item, seen),
+            Ok(_) => Ok(()),
             Err(_) => self.look_at_fields(context.alloc, cursor, &map, MEANT, seen.number),
         }
     }
@@ -163,21 +164,6 @@ impl<'a> TraceSoFar<'a> {
             return self.note(number, Note::Skipped);
         }
         Ok(())
-    }
-
-    /// Notes a refused edit of an operation that shows that a register fails.
-    fn look_at_edit(
-        &mut self,
-        suspects: &Suspects,
-        item: &Item,
-        seen: &NumberedElement,
-    ) -> Result<(), AllocError> {
-        match edited_by(suspects, item, seen.feeder) {
-            Some(operation) if seen.refused.is_some() => {
-                self.note(seen.number, Note::RestsOnEdit(operation))
-            }
-            _ => Ok(()),
-        }
     }
 
     /// Notes each field that is not read and is near an absent one of these.
@@ -217,14 +203,10 @@ impl<'a> TraceSoFar<'a> {
             self.look_at_moment(moment.0, seen.number)?;
             self.look_at_last(moment.0, seen.number)?;
         }
-        match suspect_of(context.suspects, event) {
-            Some(read) if seen.refused.is_some() => self.note(seen.number, Note::Rests(read))?,
-            _ => {}
+        if is_of_pairing(&seen.refused) {
+            return Ok(());
         }
-        match seen.refused {
-            Some(Code::Pair(_)) => Ok(()),
-            _ => self.look_at_stage(event, seen.number),
-        }
+        self.look_at_stage(event, seen.number)
     }
 
     /// Pairs invocations with answers, of elements that the pairing took.
@@ -295,7 +277,9 @@ impl<'a> TraceSoFar<'a> {
                 })?;
             }
         }
-        noted.notes.sort_by_key(|note| note.spot.start)?;
+        noted
+            .notes
+            .sort_by_key(|note| (!rests(note), note.spot.start))?;
         if !invoked {
             noted.notes.push(Problem {
                 what: Amiss::Noted(None, Note::NoOperation),
@@ -311,23 +295,22 @@ fn is_out_of_proportion(before: u64, moment: u64, after: u64) -> bool {
     before != 0 && after != 0 && moment / 1000 >= before.max(after)
 }
 
-/// An operation that an edit is of and that shows that its register fails: the one that the edit changes or withdraws,
-/// or one of the register whose kind it claims.
-fn edited_by(suspects: &Suspects, item: &Item, feeder: usize) -> Option<OpId> {
-    match (item, u32::try_from(feeder)) {
-        (Item::Amend { of, .. }, Ok(feeder)) | (Item::Withdraw { of }, Ok(feeder)) => {
-            suspects.named(OpId { feeder, event: *of })
-        }
-        (Item::Claim(id, _), _) => suspects.one_of(*id),
-        _ => None,
+/// Whether an element was left out since it does not fit the events of its process.
+fn is_of_pairing(refused: &Option<LeftOut>) -> bool {
+    match refused {
+        Some(left_out) => match left_out.code {
+            Code::Pair(_) => true,
+            Code::Form(_) | Code::Register(_) => false,
+        },
+        None => false,
     }
 }
 
-/// The read of the value that this write writes to its register, if that read shows that the register fails.
-fn suspect_of(suspects: &Suspects, event: &Event) -> Option<OpId> {
-    match (event.answer, event.action, event.register) {
-        (Stage::Invoke, Action::Write, Some(id)) => suspects.read_of(id, event.value),
-        _ => None,
+/// Whether a note says that a failure rests on an element that was left out: these come first.
+pub fn rests(problem: &Problem) -> bool {
+    match &problem.what {
+        Amiss::Noted(_, note) => note.code() == "L8",
+        Amiss::Refused(..) | Amiss::Broken(_) | Amiss::Tower(_) => false,
     }
 }
 

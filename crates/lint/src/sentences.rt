@@ -22,9 +22,12 @@ pub const SAME_MOMENT: &str = "a moment that another event of the trace has: num
 
 pub const OUT_OF_PROPORTION: &str = "a moment at least 1000 times the ones before and after it";
 
-pub const RESTS: &str = "a refused write of the value for which its register fails: read by ";
+pub const RESTS: &str = "a refused element with the value for which its register fails: that of ";
 
 pub const RESTS_ON_EDIT: &str = "a refused edit of a register that fails: shown by ";
+
+pub const RESTS_ON_UNREAD: &str =
+    "a refused element of a register that fails, whose value cannot be read: shown by ";
 
 // A fault of a tower file's text.
 pub const E1_TRUNCATED: &str = "E1, it ends inside an element";

@@ -1,80 +1,90 @@
-//! The operations that show that registers fail, to which refused elements are compared.
+//! What the failures of registers rest on, among the elements that were left out.
 
+use crate::finding::Note;
 use intervals::{OpId, RegId, Value};
-use register_book::{InRole, Role, Witness};
+use jepsen_form::Written;
+use pairing::About;
+use register_book::Witness;
+use report::rests_on;
 use shards::Closed;
 use std::alloc::{AllocError, Global};
-use std::collections::{BTreeMap, BTreeSet};
 use tower_file::Tower;
 
-/// The operations that show that their registers fail.
+/// What shows that each register fails, by number; none where it holds.
 #[derive(Drop)]
-pub struct Suspects {
-    /// The reads among them, by register and by the value that they returned.
-    reads: BTreeMap<(u32, Value), OpId>,
-    named: BTreeSet<OpId>,
-    /// One of them for each register.
-    of_register: BTreeMap<u32, OpId>,
+pub struct Suspects<'t> {
+    witnesses: Vec<Option<Witness<'t>>>,
 }
 
-impl Suspects {
-    pub fn of(alloc: Global, tower: &Tower, closed: &Closed) -> Result<Suspects, AllocError> {
-        let mut suspects = Suspects {
-            reads: BTreeMap::new(alloc),
-            named: BTreeSet::new(alloc),
-            of_register: BTreeMap::new(alloc),
-        };
+impl<'t> Suspects<'t> {
+    pub fn of(
+        alloc: Global,
+        tower: &Tower,
+        closed: &Closed<'t>,
+    ) -> Result<Suspects<'t>, AllocError> {
+        let mut witnesses = Vec::new(alloc);
         for number in 0..tower.len() {
-            let id = RegId(number as u32);
-            if let Some(book) = closed.book(id) {
-                if let Some(witness) = book.witness() {
-                    suspects.add(id, &witness)?;
-                }
-            }
+            let witness = match closed.book(RegId(number as u32)) {
+                Some(book) => book.witness(),
+                None => None,
+            };
+            witnesses.push(witness)?;
         }
-        Ok(suspects)
+        Ok(Suspects { witnesses })
     }
 
-    /// Adds the operations that show that this register fails.
-    fn add(&mut self, id: RegId, witness: &Witness) -> Result<(), AllocError> {
-        for slot in &witness.roles() {
-            if let Some(one) = slot {
-                self.add_one(id, one)?;
-            }
+    /// The note on an element that was left out, where the failure of its register rests on it.
+    pub fn note_of(&self, about: &About) -> Option<Note> {
+        let register = about.register?;
+        let slot = self.witnesses.get(register.0 as usize)?;
+        if !rests_on(slot, about) {
+            return None;
         }
-        Ok(())
-    }
-
-    fn add_one(&mut self, id: RegId, one: &InRole) -> Result<(), AllocError> {
-        if is_wrong_by_value(one.role) {
-            self.reads.insert((id.0, one.op.value()), one.op.id)?;
+        match slot {
+            Some(witness) => note_beside(witness, about),
+            None => None,
         }
-        self.named.insert(one.op.id)?;
-        self.of_register.insert(id.0, one.op.id)?;
-        Ok(())
-    }
-
-    /// The read that returned this value of the register and shows that the register fails.
-    pub fn read_of(&self, id: RegId, value: Value) -> Option<OpId> {
-        self.reads.get(&(id.0, value)).copied()
-    }
-
-    /// The operation, if it shows that its register fails.
-    pub fn named(&self, operation: OpId) -> Option<OpId> {
-        self.named.get(&operation).copied()
-    }
-
-    /// One of the operations that show that the register fails.
-    pub fn one_of(&self, id: RegId) -> Option<OpId> {
-        self.of_register.get(&id.0).copied()
     }
 }
 
-/// Whether an operation in this role is a read that is wrong by what it returned, whenever it took place.
-fn is_wrong_by_value(role: Role) -> bool {
-    match role {
-        Role::Read | Role::FirstRead | Role::SecondRead => true,
-        Role::EarlyRead | Role::LateWrite => false,
-        Role::A | Role::B | Role::C | Role::Bc | Role::D => false,
+/// The note on an element on which this failure rests, with the operation that it touches, a read before a write, or else
+/// with the first one that shows the failure.
+fn note_beside(witness: &Witness, about: &About) -> Option<Note> {
+    let mut first = None;
+    let mut write = None;
+    for slot in &witness.roles() {
+        if let Some(one) = slot {
+            if about.operation == Some(one.op.id) {
+                return Some(Note::RestsOnEdit(one.op.id));
+            }
+            if is_written(about.written, one.op.value()) {
+                if !one.op.is_write() {
+                    return Some(Note::Rests(one.op.id));
+                }
+                write = Some(one.op.id);
+            }
+            if first.is_none() {
+                first = Some(one.op.id);
+            }
+        }
+    }
+    match write {
+        Some(id) => Some(Note::Rests(id)),
+        None => Some(note_by_first(first?, about)),
+    }
+}
+
+fn is_written(written: Written, value: Value) -> bool {
+    match written {
+        Written::Known(written) => written == value,
+        Written::Nothing | Written::Unread => false,
+    }
+}
+
+fn note_by_first(first: OpId, about: &About) -> Note {
+    if about.claims {
+        Note::RestsOnEdit(first)
+    } else {
+        Note::RestsOnUnread(first)
     }
 }

@@ -11,7 +11,7 @@ use Rattle.edn_reader.specs.Fault.{AreElementsBefore, AreElementsSoFar, IsBeginn
 use Rattle.edn_reader.specs.Grammar.{ElementModel}
 use Rattle.edn_reader.specs.Text.{IsText}
 use Rattle.tower_file.specs.Contents.{TowerModel}
-use Rattle.jepsen_form.specs.declared.fault.FormFault.{FormFault}
+use Rattle.jepsen_form.specs.declared.gist.RefusedForm.{RefusedForm}
 use Rattle.jepsen_form.specs.declared.item.Item.{Item}
 use Rattle.jepsen_form.specs.declared.item.MomentField.{MomentField}
 use Rattle.jepsen_form.specs.Item.{IsItem}
@@ -50,7 +50,7 @@ below_all place (doing ∷ doings) =
     (All-weaker (λ (line : Line). line.event < place + 1 + length doings) (λ (line : Line). line.event < bound) (λ line less. omega arith)
     (lines_from (place + 1) doings) (below_all (place + 1) doings))
 
-as_many : (feeder : ℕ) (before items : List (Result Item FormFault)) → length (steps_after feeder before items) ≡ length items
+as_many : (feeder : ℕ) (before items : List (Result Item RefusedForm)) → length (steps_after feeder before items) ≡ length items
 as_many feeder before [] = refl
 as_many feeder before (item ∷ items) = ap suc (as_many feeder (before ++ item ∷ []) items)
 

@@ -5,6 +5,7 @@ use Rattle.intervals.specs.declared.operation.RegId.{RegId}
 use Rattle.register_book.specs.declared.reply.Reply.{Reply}
 use Rattle.register_book.specs.declared.reply.Reply.TheVariants.{Accepted, Refused as NotAccepted}
 use Rattle.pairing.specs.declared.step.Step.TheVariants as steps
+use Rattle.pairing.specs.About.{about_edit}
 use Rattle.shards.specs.declared.entry.Answer.{Answer}
 use Rattle.shards.specs.declared.entry.Entry.{Entry}
 use Rattle.shards.specs.declared.entry.NumberedEntry.{NumberedEntry}
@@ -12,8 +13,8 @@ use Rattle.shards.specs.Plan.{Plan}
 use Rattle.shards.specs.Pass.{HasEntry, last_in}
 use Rattle.shards.specs.Journal.{EachAfter, IsJournalOf, count_by}
 use Rattle.shards.specs.Steps.{IsStanding, entry_of, numbered_entry}
-use Rattle.logs.specs.declared.log.Code.{Code}
 use Rattle.logs.specs.declared.log.Code.TheVariants.{Register}
+use Rattle.logs.specs.declared.log.LeftOut.{LeftOut}
 use Rattle.logs.specs.declared.log.Line.{Line}
 use Rattle.logs.specs.declared.log.What.{What}
 use Rattle.logs.specs.declared.log.What.TheVariants.{Refused, Answered}
@@ -23,21 +24,21 @@ use Rattle.logs.specs.Steps.{StepResult}
 -- what became of an element: it was refused by its form or the pairing; it had no step; its edit was entered in its
 -- shard's journal, at a number and with a reply; or its question was answered
 pub data Doing : Type 0 where
-  refused : (code : Code) → Doing
+  refused : (left_out : LeftOut) → Doing
   nothing : Doing
   entered : (register : RegId) (edit : Edit) (number : ℕ) (reply : Reply) → Doing
   answered : (register : RegId) (answer : Answer) → Doing
 
 -- what the element of a doing came to: the step that was done, no step, or its refusal
 abbrev pub taken_of : Doing → StepResult
-taken_of (refused code) = Err code
+taken_of (refused left_out) = Err left_out
 taken_of nothing = Ok None
 taken_of (entered register edit number reply) = Ok (Some (steps.Edit register edit))
 taken_of (answered register answer) = Ok (Some (steps.Ask register))
 
 -- the entry that a doing made in shard `at`, with its number: that of an edit of a register there, or none
 abbrev pub entry_in : ℕ → ℕ → ℕ → Doing → Option NumberedEntry
-entry_in shards feeder at (refused code) = None
+entry_in shards feeder at (refused left_out) = None
 entry_in shards feeder at nothing = None
 entry_in shards feeder at (entered register edit number reply) =
     if register.0 % shards == at then Some (numbered_entry number (entry_of feeder register edit reply)) else None
@@ -47,16 +48,16 @@ entry_in shards feeder at (answered register answer) = None
 abbrev pub entered_in : ℕ → ℕ → ℕ → List Doing → List NumberedEntry
 entered_in shards feeder at doings = filter_map (entry_in shards feeder at) doings
 
--- what is noted of the reply to an edit: a refusal, or nothing where the edit was accepted
-abbrev pub what_of_reply : Reply → Option What
-what_of_reply (Accepted holds) = None
-what_of_reply (NotAccepted refusal) = Some (Refused (Register refusal))
+-- what is noted of the reply to an edit of a register: that it was left out, or nothing where it was accepted
+abbrev pub what_of_reply : RegId → Edit → Reply → Option What
+what_of_reply register edit (Accepted holds) = None
+what_of_reply register edit (NotAccepted refusal) = Some (Refused (record { code = Register refusal; about = about_edit register edit }))
 
--- what is noted of a doing: a refusal, whoever refused, or the answer to a question; else nothing
+-- what is noted of a doing: that its element was left out, whoever refused it, or the answer to a question; else nothing
 abbrev pub what_of : Doing → Option What
-what_of (refused code) = Some (Refused code)
+what_of (refused left_out) = Some (Refused left_out)
 what_of nothing = None
-what_of (entered register edit number reply) = what_of_reply reply
+what_of (entered register edit number reply) = what_of_reply register edit reply
 what_of (answered register answer) = Some (Answered register answer)
 
 -- the log line for what is noted of the element at this place; no line where nothing is
@@ -84,7 +85,7 @@ pub record IsAnswerAfter (plan : Plan) (start : Start) (before : List Doing) (re
 
 -- the answer to a question is one after what was done before it (`IsAnswerAfter`); nothing is said of other doings
 abbrev pub IsAnsweredAfter : Plan → Start → List Doing → Doing → Type 0
-IsAnsweredAfter plan start before (refused code) = Unit {0}
+IsAnsweredAfter plan start before (refused left_out) = Unit {0}
 IsAnsweredAfter plan start before nothing = Unit {0}
 IsAnsweredAfter plan start before (entered register edit number reply) = Unit {0}
 IsAnsweredAfter plan start before (answered register answer) = IsAnswerAfter plan start before register answer

@@ -1,7 +1,7 @@
 -- What a run over several traces leaves.
 use Rattle.std.specs.Prelude.{◌≡◌, ◌<◌, ◌+◌, ℕ, List, [], ◌∷◌, map, length, Result}
 use Rattle.tower_file.specs.Contents.{TowerModel}
-use Rattle.jepsen_form.specs.declared.fault.FormFault.{FormFault}
+use Rattle.jepsen_form.specs.declared.gist.RefusedForm.{RefusedForm}
 use Rattle.jepsen_form.specs.declared.item.Item.{Item}
 use Rattle.jepsen_form.specs.declared.item.MomentField.{MomentField}
 use Rattle.shards.specs.Plan.{Plan, plan_of}
@@ -24,7 +24,7 @@ EachNumbered R number (x ∷ xs) (y ∷ ys) = R number x y × EachNumbered R (nu
 -- `log` is that of a feeder's trace: it notes what was done for each element's step, by place, and where the trace
 -- broke; in each shard's journal the feeder's entries read as those of the edits that were done there, in order
 pub record IsTraced (plan : Plan) (tower : TowerModel) (chosen : MomentField) (closed : List ClosedShard) (feeder : ℕ) (trace : List ℕ) (log : Log) : Type 0 where
-  pub items : List (Result Item FormFault)
+  pub items : List (Result Item RefusedForm)
   pub are : AreItemsOfTrace tower chosen trace log.broken items
   pub doings : List Doing
   pub done : AreDone plan (first_start feeder) (steps_of feeder items) log.lines.items doings

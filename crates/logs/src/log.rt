@@ -7,7 +7,7 @@ ghost use Rattle.logs.specs.Code.{break_code_of, refused_code};
 use edn_reader::EdnFault;
 use intervals::{Refusal, RegId};
 use jepsen_form::FormFault;
-use pairing::PairFault;
+use pairing::{About, PairFault};
 use shards::Answer;
 
 /// Why an element of a trace was refused: by its form, by the pairing, or by its register.
@@ -31,10 +31,17 @@ impl Code {
     }
 }
 
-/// What is noted of an element: why it was refused, or the answer to its question.
+/// An element that was left out: why it was refused, and what it is about.
+#[derive(Clone, Copy)]
+pub struct LeftOut {
+    pub code: Code,
+    pub about: About,
+}
+
+/// What is noted of an element: that it was left out, or the answer to its question.
 #[derive(Clone, Copy)]
 pub enum What<'t> {
-    Refused(Code),
+    Refused(LeftOut),
     Answered(RegId, Answer<'t>),
 }
 

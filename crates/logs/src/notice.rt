@@ -1,6 +1,6 @@
 //! What a watcher is told while traces are read.
 
-use crate::log::{Broken, Code};
+use crate::log::{Broken, LeftOut};
 use shards::VerdictChange;
 
 /// What a watcher is told while traces are read. A trace is given by its number, and an element by its place in it.
@@ -12,11 +12,11 @@ pub enum Notice {
         place: u64,
         change: VerdictChange,
     },
-    /// This element was refused.
+    /// This element was left out.
     Refused {
         feeder: u32,
         place: u64,
-        code: Code,
+        left_out: LeftOut,
     },
     /// The trace broke.
     Broke {

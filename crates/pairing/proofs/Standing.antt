@@ -1,5 +1,5 @@
 -- A pairing that knows the items so far knows one more item after it has taken it.
-use Rattle.std.proofs.Common.{◌≡◌, ℕ, ℤ, ◌<◌, ◌≤◌, ◌==◌, true, false, List, [], ◌∷◌, ◌++◌, find, Option, Some, None, is_some, is_err, if◌then◌else◌, All, refl, sym, ◌∙◌, ap, arith}
+use Rattle.std.proofs.Common.{◌≡◌, ℕ, ℤ, ◌<◌, ◌≤◌, ◌==◌, true, false, List, [], ◌∷◌, ◌++◌, find, Option, Some, None, Err, is_some, is_err, if◌then◌else◌, All, refl, sym, ◌∙◌, ap, arith}
 use Rattle.std.specs.List.{filter_map, cons_option}
 use Rattle.std.specs.Option.{option_map, option_or, option_and_then, ForSome}
 use Rattle.std.proofs.lemmas.List.{reverse-append}
@@ -142,3 +142,14 @@ with_row_rises rows (Some said) place at lower rising =
 -- the rows go on rising, up to the place of the item
 pub rows_rise : (last : Option ℕ) (rows : List (ℕ × RegId)) (place : ℕ) (item : Item) → ForSome last (λ last. last < place) → IsRising rows × All (λ row. IsUpTo last row.0) rows → IsRising (with_row rows (invocation_of place item)) × All (λ row. IsUpTo (Some place) row.0) (with_row rows (invocation_of place item))
 rows_rise last rows place item rises so_far = with_row_rises rows (invocation_of place item) place (invocation_place place item) (rows_later last place rows rises so_far.1) so_far.0
+
+-- a fault is there where an item is refused
+is_refused : (said : Option PairFault) (given : Option Step) (fault : PairFault) → unless said given ≡ Err fault → is_some said ≡ true
+is_refused None given fault is = cc
+is_refused (Some said) given fault is = refl
+
+-- an item that is refused changes nothing of which items are accepted
+pub not_accepted : (feeder place : ℕ) (items : List Placed) (item : Item) (fault : PairFault) → step_of feeder (accepted items) place item ≡ Err fault
+    → accepted (items ++ record { place = place; item = item } ∷ []) ≡ accepted items
+not_accepted feeder place items item fault is =
+    refused_push items (record { place = place; item = item }) (is_refused (fault_of (accepted items) item) (given_by feeder (accepted items) place item) fault is)

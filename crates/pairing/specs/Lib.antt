@@ -6,5 +6,6 @@ pub mod Step
 pub mod Waiting
 pub mod Known
 pub mod Answering
+pub mod About
 -- words of private clauses
 pub mod Registers

@@ -1,6 +1,7 @@
 //! Laws of pairing: which answer is whose, and which registers steps are on. Each is proved, and does nothing.
 
-ghost use Rattle.std.specs.Prelude.{◌≡◌, ◌<◌, ◌∷◌, ◌++◌, ℕ, ℤ, List, All, Some, Ok, false, not, IsTrue};
+ghost use Rattle.std.specs.Prelude.{◌≡◌, ◌<◌, ◌∷◌, ◌++◌, [], ℕ, ℤ, List, All, Some, Ok, Err, false, not, IsTrue};
+ghost use Rattle.pairing.specs.declared.fault.PairFault.{PairFault};
 ghost use Rattle.pairing.specs.declared.step.Step.{Step};
 ghost use Rattle.pairing.specs.Accepted.{Placed, accepted, is_event_of};
 ghost use Rattle.pairing.specs.Step.{step_of, id_of};
@@ -34,4 +35,10 @@ pub fn answers_are_of_their_invocation()
 pub fn steps_are_on_named_registers()
     ensures { (count feeder place : ℕ) (items : List Placed) (item : Item) (step : Step) → All (λ one. NamesBelow count one.item) items → NamesBelow count item
         → step_of feeder (accepted items) place item ≡ Ok (Some step) → (step_register step).0 < count }
+{}
+
+/// An item that is refused changes nothing of which items are accepted.
+pub fn a_refused_item_is_not_accepted()
+    ensures { (feeder place : ℕ) (items : List Placed) (item : Item) (fault : PairFault) → step_of feeder (accepted items) place item ≡ Err fault
+        → accepted (items ++ record { place = place; item = item } ∷ []) ≡ accepted items }
 {}

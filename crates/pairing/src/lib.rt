@@ -14,10 +14,12 @@
 //!
 //! The first trace of `tests/form_tests/steps.rattle` makes these calls; its other traces have each step and each
 //! fault. Begin with `Pairing::take`: its clauses name the accepted items (`specs/Accepted.antt`), the step of an item
-//! (`Step.antt`) and what a pairing knows (`Known.antt`, and `Waiting.antt` for what waits for an answer).
+//! (`Step.antt`) and what a pairing knows (`Known.antt`, and `Waiting.antt` for what waits for an answer). What a
+//! refused element is about, its register, what it would have written and its operation, is in `About.antt`.
 //! `Registers.antt` serves private clauses alone. `laws` says which answer belongs to which invocation.
 #![tactic(auto)]
 
+mod about;
 mod fault;
 mod invocation;
 pub mod laws;
@@ -26,6 +28,7 @@ mod registers;
 mod step;
 mod waiting;
 
+pub use about::{About, about_edit, gist_of_item};
 pub use fault::PairFault;
 pub use pairing::Pairing;
 pub use step::Step;

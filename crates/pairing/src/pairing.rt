@@ -6,17 +6,19 @@ ghost use Rattle.std.specs.Ordering.{int_eq};
 ghost use Rattle.pairing.specs.Invocation.{invocation_of};
 ghost use Rattle.pairing.specs.Accepted.{Placed, accepted, is_event_of};
 ghost use Rattle.pairing.specs.Step.{step_of};
+ghost use Rattle.pairing.specs.About.{about_gist, target_of};
 ghost use Rattle.pairing.specs.Known.{KnowsItems};
 ghost use Rattle.pairing.specs.Waiting.{waits_at};
 ghost use Rattle.pairing.specs.Registers.{with_row, answer_beside};
 
+use crate::about::{About, about_by, target_beside};
 use crate::fault::PairFault;
 use crate::invocation::{Invocation, invocation_of};
 use crate::registers::register_at;
 use crate::step::{Step, edit_answer, event_answer, id};
 use crate::waiting::Unanswered;
 use intervals::{Edit, RegId};
-use jepsen_form::{Event, Item};
+use jepsen_form::{Event, Gist, Item};
 use std::alloc::Global;
 use std::marker::Model;
 
@@ -85,6 +87,28 @@ impl Pairing {
         remember(&mut self.unanswered, &mut self.registers, &item, event)?;
         self.last = Some(event);
         answer
+    }
+
+    /// What an element is about after the items so far, by what can be read of it.
+    pub fn about(&self, gist: &Gist) -> About
+        ensures { (items : List Placed) → KnowsItems self.now items → result ≡ about_gist self.now.feeder (accepted items) gist.now }
+    {
+        about_by(self.feeder, gist, self.target(gist))
+    }
+
+    /// The place and the register of the operation that an element answers or edits.
+    fn target(&self, gist: &Gist) -> Option<(u64, RegId)>
+        ensures { (items : List Placed) → KnowsItems self.now items → result ≡ target_of (accepted items) gist.now }
+    {
+        let answers = match gist.answers {
+            Some(process) => self.unanswered.get(process),
+            None => None,
+        };
+        let register = match gist.of {
+            Some(of) => register_at(&self.registers, of),
+            None => None,
+        };
+        target_beside(answers, gist.of, register)
     }
 
     /// The step of an item, or why it is refused. Nothing is noted of it.

@@ -36,7 +36,9 @@ use Rattle.register_book.specs.declared.fault.Witness.TheVariants.{Wrong, Unwrit
 use Rattle.register_book.specs.Fault.{ops_in_roles, roles_of, side_holder}
 use Rattle.places.specs.declared.location.Location.{Location}
 use Rattle.places.specs.Spots.{PlacesModel, line_of_byte, located}
+use Rattle.report.specs.declared.doubt.Doubt.{Doubt}
 use Rattle.report.specs.declared.finding.Finding.{Finding}
+use Rattle.report.specs.Doubt.{left_out_at, rests_at}
 use Rattle.report.specs.Culprit.{is_culprit}
 use Rattle.report.specs.Finding.{fails_of}
 use Rattle.report.specs.Listing.{level_name}
@@ -53,7 +55,7 @@ use Rattle.records.specs.Grammar.{AreFields, AreValues, IsOneValue, IsRecord, al
 use Rattle.records.specs.Log.{answer_symbols, break_symbols, broken_symbols, met_by, met_places, placed_break, placed_refusal, refusal_end, refusal_symbols, refused_symbols}
 use Rattle.records.specs.Notice.{change_symbols, changed_symbols, ended_symbols, fault_field, fault_ids_symbols, notice_symbols, optional_fault_symbols}
 use Rattle.records.specs.Operation.{act_word, op_spot, op_symbols}
-use Rattle.records.specs.Register.{register_symbols, witness_symbols}
+use Rattle.records.specs.Register.{doubt_symbols, register_symbols, witness_symbols}
 use Rattle.records.specs.Run.{AreRecordsOfRun, RunNames, asked_records, broken_records, has_record, line_record, log_records, logs_records, records_of, register_record, registers_records, totals_of, what_record}
 use Rattle.records.specs.Spot.{byte_symbol, holder_record, holder_spot, known_symbol, line_symbol, spot_record, spot_symbols}
 use Rattle.records.specs.Symbol.{Symbol, begin_list, begin_record, end_list, end_record, flag, key, nothing, number, place, text, word}
@@ -190,24 +192,42 @@ register_fields n level name finding culprit rest =
     (field_is (codes "operations") refl (number (decimal finding.operations)) (whole_number finding.operations)
     (field_is (codes "culprit") refl (flag culprit) refl rest)))))))
 
-regrouped : (fault witness shown : List Symbol) → fault ++ (witness ++ (shown ++ end_list ∷ [])) ++ end_record ∷ [] ≡ fault ++ witness ++ shown ++ end_list ∷ end_record ∷ []
-regrouped fault witness shown = simp append_assoc
+elements_are : {depth : ℕ} (elements : List (ℕ × ℕ)) → AreValues depth (map (λ at. place at.0 at.1) elements)
+elements_are [] = no_value
+elements_are (at ∷ elements) = more_values (alone (place at.0 at.1) refl) (elements_are elements)
 
-found_is : {depth : ℕ} (places : PlacesModel) (n : ℕ) (level name : List ℕ) (kind : Kind) (operations : ℕ) (found : Option Witness) (culprit : Bool) (allowed : List Allowed) → IsRecord (suc (suc (suc (suc depth)))) (register_symbols places n level name (record { kind = kind; operations = operations; witness = found }) culprit allowed)
-unfolding register_symbols witness_symbols type_symbols number_symbols text_field word_symbols flag_symbols list_symbols end_symbols
-found_is places n level name kind operations None culprit allowed =
-    between
+-- the fields of what is in doubt
+abbrev doubt_fields : List (ℕ × ℕ) → List (ℕ × ℕ) → List Symbol
+doubt_fields left_out rests_on =
+    key (codes "left_out") ∷ number (decimal (length left_out)) ∷ key (codes "rests_on") ∷ begin_list ∷ (map (λ at. place at.0 at.1) rests_on ++ end_list ∷ [])
+
+doubt_is : {depth : ℕ} (left_out rests_on : List (ℕ × ℕ)) → AreFields (suc depth) (doubt_fields left_out rests_on)
+doubt_is left_out rests_on =
+    field_is (codes "left_out") refl (number (decimal (length left_out))) (whole_number (length left_out)) (last_list_is (codes "rests_on") refl (elements_are rests_on))
+
+regrouped : (fault shown rests : List Symbol) (left : Symbol)
+    → (fault ++ (key (codes "witness") ∷ ((begin_list ∷ (shown ++ end_list ∷ [])) ++ (key (codes "left_out") ∷ left ∷ key (codes "rests_on") ∷ begin_list ∷ (rests ++ end_list ∷ []))))) ++ end_record ∷ []
+    ≡ (fault ++ (key (codes "witness") ∷ begin_list ∷ []) ++ shown ++ end_list ∷ []) ++ (key (codes "left_out") ∷ left ∷ key (codes "rests_on") ∷ begin_list ∷ (rests ++ end_list ∷ end_record ∷ []))
+regrouped fault shown rests left = simp append_assoc
+
+found_is : {depth : ℕ} (places : PlacesModel) (n : ℕ) (level name : List ℕ) (kind : Kind) (operations : ℕ) (found : Option Witness) (culprit : Bool) (allowed : List Allowed) (left_out rests_on : List (ℕ × ℕ)) → IsRecord (suc (suc (suc (suc depth)))) (register_symbols places n level name (record { kind = kind; operations = operations; witness = found }) culprit allowed left_out rests_on)
+unfolding register_symbols witness_symbols doubt_symbols type_symbols number_symbols text_field word_symbols flag_symbols list_symbols end_symbols
+found_is {depth} places n level name kind operations None culprit allowed left_out rests_on =
+    subst (λ (tail : List Symbol). IsRecord (suc (suc (suc (suc depth)))) (begin_record ∷ key (codes "t") ∷ word (codes "register") ∷ key (codes "number") ∷ number (decimal n) ∷ key (codes "level") ∷ text level ∷ key (codes "name") ∷ text name ∷ key (codes "kind") ∷ word (kind_word kind) ∷ key (codes "holds") ∷ flag true ∷ key (codes "operations") ∷ number (decimal operations) ∷ key (codes "culprit") ∷ flag culprit ∷ key (codes "fault") ∷ nothing ∷ key (codes "witness") ∷ begin_list ∷ end_list ∷ key (codes "left_out") ∷ number (decimal (length left_out)) ∷ key (codes "rests_on") ∷ begin_list ∷ tail))
+    (append_assoc (map (λ at. place at.0 at.1) rests_on) (end_list ∷ []) (end_record ∷ []))
+    (between
     (register_fields n level name (record { kind = kind; operations = operations; witness = None }) culprit
-    (field_is (codes "fault") refl nothing refl (last_list_is (codes "witness") refl no_value)))
-found_is {depth} places n level name kind operations (Some witness) culprit allowed =
+    (field_is (codes "fault") refl nothing refl (more_fields (codes "witness") refl (listed no_value) (doubt_is left_out rests_on)))))
+found_is {depth} places n level name kind operations (Some witness) culprit allowed left_out rests_on =
     subst (λ (tail : List Symbol). IsRecord (suc (suc (suc (suc depth)))) (begin_record ∷ key (codes "t") ∷ word (codes "register") ∷ key (codes "number") ∷ number (decimal n) ∷ key (codes "level") ∷ text level ∷ key (codes "name") ∷ text name ∷ key (codes "kind") ∷ word (kind_word kind) ∷ key (codes "holds") ∷ flag false ∷ key (codes "operations") ∷ number (decimal operations) ∷ key (codes "culprit") ∷ flag culprit ∷ key (codes "fault") ∷ tail))
-    (regrouped (fault_symbols places allowed witness) (key (codes "witness") ∷ begin_list ∷ []) (flat_map (op_symbols places) (ops_in_roles (roles_of witness))))
+    (regrouped (fault_symbols places allowed witness) (flat_map (op_symbols places) (ops_in_roles (roles_of witness))) (map (λ at. place at.0 at.1) rests_on) (number (decimal (length left_out))))
     (between
     (register_fields n level name (record { kind = kind; operations = operations; witness = Some witness }) culprit
-    (more_fields (codes "fault") refl (nested (fault_is places allowed witness)) (last_list_is (codes "witness") refl (ops_are places (ops_in_roles (roles_of witness)))))))
+    (more_fields (codes "fault") refl (nested (fault_is places allowed witness))
+    (more_fields (codes "witness") refl (listed (ops_are places (ops_in_roles (roles_of witness)))) (doubt_is left_out rests_on)))))
 
-register_is : {depth : ℕ} (places : PlacesModel) (n : ℕ) (level name : List ℕ) (finding : Finding) (culprit : Bool) (allowed : List Allowed) → IsRecord (suc (suc (suc (suc depth)))) (register_symbols places n level name finding culprit allowed)
-register_is places n level name finding culprit allowed = found_is places n level name finding.kind finding.operations finding.witness culprit allowed
+register_is : {depth : ℕ} (places : PlacesModel) (n : ℕ) (level name : List ℕ) (finding : Finding) (culprit : Bool) (allowed : List Allowed) (left_out rests_on : List (ℕ × ℕ)) → IsRecord (suc (suc (suc (suc depth)))) (register_symbols places n level name finding culprit allowed left_out rests_on)
+register_is places n level name finding culprit allowed left_out rests_on = found_is places n level name finding.kind finding.operations finding.witness culprit allowed left_out rests_on
 
 -- the traces
 
@@ -321,25 +341,25 @@ where_shown : (shown : Bool) (records : List (List Symbol)) → All (IsRecord 4)
 where_shown true records are = are
 where_shown false records are = All-nil (IsRecord 4)
 
-record_of : (places : PlacesModel) (tower : TowerModel) (failing : List Bool) (n : ℕ) (found : Option Register) (finding : Finding) (allowed : List Allowed) → All (IsRecord 4) (option_map_or (λ register. register_symbols places n (level_name tower.levels register.level) register.name finding (is_culprit failing n register) allowed ∷ []) found [])
-record_of places tower failing n None finding allowed = All-nil (IsRecord 4)
-record_of places tower failing n (Some register) finding allowed =
+record_of : (places : PlacesModel) (tower : TowerModel) (failing : List Bool) (doubts : List Doubt) (n : ℕ) (found : Option Register) (finding : Finding) (allowed : List Allowed) → All (IsRecord 4) (option_map_or (λ register. register_symbols places n (level_name tower.levels register.level) register.name finding (is_culprit failing n register) allowed (left_out_at doubts n) (rests_at doubts n) ∷ []) found [])
+record_of places tower failing doubts n None finding allowed = All-nil (IsRecord 4)
+record_of places tower failing doubts n (Some register) finding allowed =
     let level = level_name tower.levels register.level in
     let culprit = is_culprit failing n register in
-    one_record (register_symbols places n level register.name finding culprit allowed) (register_is places n level register.name finding culprit allowed)
+    one_record (register_symbols places n level register.name finding culprit allowed (left_out_at doubts n) (rests_at doubts n)) (register_is places n level register.name finding culprit allowed (left_out_at doubts n) (rests_at doubts n))
 
-registers_are : (places : PlacesModel) (tower : TowerModel) (failing : List Bool) (only : Bool) (n : ℕ) (findings : List Finding) (others : List (List Allowed)) → All (IsRecord 4) (registers_records places tower failing only n findings others)
-registers_are places tower failing only n [] others = All-nil (IsRecord 4)
-registers_are places tower failing only n (finding ∷ findings) [] = All-nil (IsRecord 4)
-registers_are places tower failing only n (finding ∷ findings) (allowed ∷ others) =
-    let here = register_record places tower failing n finding allowed in
+registers_are : (places : PlacesModel) (tower : TowerModel) (failing : List Bool) (doubts : List Doubt) (only : Bool) (n : ℕ) (findings : List Finding) (others : List (List Allowed)) → All (IsRecord 4) (registers_records places tower failing doubts only n findings others)
+registers_are places tower failing doubts only n [] others = All-nil (IsRecord 4)
+registers_are places tower failing doubts only n (finding ∷ findings) [] = All-nil (IsRecord 4)
+registers_are places tower failing doubts only n (finding ∷ findings) (allowed ∷ others) =
+    let here = register_record places tower failing doubts n finding allowed in
     let shown = has_record only finding in
-    All-append (IsRecord 4) (if shown then here else []) (registers_records places tower failing only (n + 1) findings others)
-    (where_shown shown here (record_of places tower failing n (slice_get tower.registers n) finding allowed))
-    (registers_are places tower failing only (n + 1) findings others)
+    All-append (IsRecord 4) (if shown then here else []) (registers_records places tower failing doubts only (n + 1) findings others)
+    (where_shown shown here (record_of places tower failing doubts n (slice_get tower.registers n) finding allowed))
+    (registers_are places tower failing doubts only (n + 1) findings others)
 
 what_is : (places : PlacesModel) (registers : List Register) (feeder event : ℕ) (what : What) → IsRecord 4 (what_record places registers feeder event what)
-what_is places registers feeder event (Refused code) = placed_refusal_is places feeder event code
+what_is places registers feeder event (Refused left_out) = placed_refusal_is places feeder event left_out.code
 what_is places registers feeder event (Answered register answer) = answer_is places feeder event (register_name registers register) answer.holds answer.operations
 
 lines_are : (places : PlacesModel) (registers : List Register) (feeder : ℕ) (lines : List Line) → All (IsRecord 4) (map (line_record places registers feeder) lines)
@@ -364,24 +384,24 @@ asked_are registers None = All-nil (IsRecord 4)
 asked_are registers (Some found) =
     one_record (order_symbols (register_name registers found.0) found.1) (order_is (register_name registers found.0) found.1)
 
-run_is : (places : PlacesModel) (names : RunNames) → is_record_word names.moments ≡ true → (only : Bool) (status : ℕ) (tower : TowerModel) (findings : List Finding) (allowed : List (List Allowed)) (logs : List Log) (asked : Option (RegId × Option (List OpId))) → All (IsRecord 4) (records_of places names only status tower findings allowed logs asked)
-run_is places names is only status tower findings allowed logs asked =
+run_is : (places : PlacesModel) (names : RunNames) → is_record_word names.moments ≡ true → (only : Bool) (status : ℕ) (tower : TowerModel) (findings : List Finding) (doubts : List Doubt) (allowed : List (List Allowed)) (logs : List Log) (asked : Option (RegId × Option (List OpId))) → All (IsRecord 4) (records_of places names only status tower findings doubts allowed logs asked)
+run_is places names is only status tower findings doubts allowed logs asked =
     let first = head_record names.tower (length tower.registers) names.traces names.moments in
     let last = end_of_records status (totals_of tower findings logs) in
-    let of_registers = registers_records places tower (fails_of findings) only 0 findings allowed in
+    let of_registers = registers_records places tower (fails_of findings) doubts only 0 findings allowed in
     let of_logs = logs_records places tower.registers 0 logs in
     let of_asked = asked_records tower.registers asked in
     let middle = of_registers ++ of_logs ++ of_asked in
     All-cons (IsRecord 4) first (middle ++ last ∷ []) (head_is names.tower (length tower.registers) names.traces names.moments is)
     (All-append (IsRecord 4) middle (last ∷ [])
     (All-append (IsRecord 4) (of_registers ++ of_logs) of_asked
-    (All-append (IsRecord 4) of_registers of_logs (registers_are places tower (fails_of findings) only 0 findings allowed) (logs_are places tower.registers 0 logs))
+    (All-append (IsRecord 4) of_registers of_logs (registers_are places tower (fails_of findings) doubts only 0 findings allowed) (logs_are places tower.registers 0 logs))
     (asked_are tower.registers asked))
     (one_record last (end_is status (totals_of tower findings logs))))
 
 pub each_is_record : (names : RunNames) → is_record_word names.moments ≡ true → (only : Bool) (status : ℕ) (tower : TowerModel) (closed : List ClosedShard) (logs : List Log) (order : Option RegId) (texts : List (List ℕ)) (records : List (List Symbol)) → AreRecordsOfRun names only status tower closed logs order texts records → All (IsRecord 4) records
 each_is_record names is only status tower closed logs order texts records are =
-    subst (λ (list : List (List Symbol)). All (IsRecord 4) list) (sym are.records_are) (run_is are.places names is only status tower are.findings are.allowed logs are.asked)
+    subst (λ (list : List (List Symbol)). All (IsRecord 4) list) (sym are.records_are) (run_is are.places names is only status tower are.findings are.doubts are.allowed logs are.asked)
 
 -- notices
 
@@ -429,6 +449,6 @@ ended_is feeder elements =
 
 pub notice_is : (registers : List Register) (notice : Notice) → IsRecord 4 (notice_symbols registers notice)
 notice_is registers (notices.Changed feeder event change) = change_is (register_name registers change.register) feeder event change
-notice_is registers (notices.Refused feeder event code) = refused_is feeder event code
+notice_is registers (notices.Refused feeder event left_out) = refused_is feeder event left_out.code
 notice_is registers (notices.Broke feeder broken) = broken_is feeder broken
 notice_is registers (notices.Ended feeder elements) = ended_is feeder elements

@@ -21,6 +21,7 @@ use Rattle.tower_file.specs.Contents.{Register, TowerModel}
 use Rattle.shards.specs.Closing.{ClosedShard}
 use Rattle.logs.specs.declared.log.Broken.{Broken}
 use Rattle.logs.specs.declared.log.Code.{Code}
+use Rattle.logs.specs.declared.log.LeftOut.{LeftOut}
 use Rattle.logs.specs.declared.log.Line.{Line}
 use Rattle.logs.specs.declared.log.Log.{Log}
 use Rattle.logs.specs.declared.log.What.{What}
@@ -29,7 +30,9 @@ use Rattle.register_book.specs.declared.fault.Fault.TheVariants as faults
 use Rattle.register_book.specs.declared.fault.Witness.{Witness}
 use Rattle.register_book.specs.declared.fault.Witness.TheVariants.{Wrong, Unwritten, Split, Early, Crossing}
 use Rattle.register_book.specs.Fault.{ids_of, ops_in_roles, roles_of, side_holder}
+use Rattle.report.specs.declared.doubt.Doubt.{Doubt}
 use Rattle.report.specs.declared.finding.Finding.{Finding}
+use Rattle.report.specs.Doubt.{left_out_at, rests_at}
 use Rattle.report.specs.Culprit.{culprits_from, culprits_of, is_culprit}
 use Rattle.report.specs.Finding.{fails_of}
 use Rattle.report.specs.Listing.{level_name}
@@ -53,10 +56,10 @@ use Rattle.records.specs.Fault.{fault_symbols, side_value}
 use Rattle.records.specs.Field.{end_symbols, flag_symbols, list_symbols, number_symbols, place_symbols, text_field, type_symbols, word_symbols}
 use Rattle.records.specs.Log.{answer_symbols, break_symbols, placed_break, placed_refusal, refusal_symbols}
 use Rattle.records.specs.Operation.{op_spot, op_symbols}
-use Rattle.records.specs.Register.{register_symbols, witness_symbols}
+use Rattle.records.specs.Register.{doubt_symbols, register_symbols, witness_symbols}
 use Rattle.records.specs.Run.{AreRecordsOfRun, RunNames, asked_records, broken_records, log_records, logs_records, records_of, register_record, line_record, registers_records, totals_of, what_record}
 use Rattle.records.specs.Spot.{byte_symbol, line_symbol, spot_symbols}
-use Rattle.records.specs.Symbol.{Symbol, begin_list, begin_record, end_list, end_record, key, number, place, text, word}
+use Rattle.records.specs.Symbol.{Symbol, begin_list, begin_record, end_list, end_record, key, nothing, number, place, text, word}
 use Rattle.records.specs.Value.{end_symbol, holder_symbol, part_symbol, value_symbol}
 use Rattle.records.specs.Told.{after, first_symbol, report_of, told_parts, told_text, told_culprit, told_fault, told_id, told_note, told_order, told_section, told_value}
 
@@ -140,9 +143,19 @@ ops_parts places (op ∷ ops) symbols =
     ∙ ap (λ (lines : List ℕ). part_lines op ++ lines) (ops_parts places ops symbols)
     ∙ sym (append_assoc (part_lines op) (flat_map part_lines ops) (told_parts symbols))
 
-shown_parts : (places : PlacesModel) (ops : List Op) → told_parts (flat_map (op_symbols places) ops ++ end_symbols) ≡ flat_map part_lines ops
-unfolding end_symbols
-shown_parts places ops = ops_parts places ops end_symbols ∙ append-nil (flat_map part_lines ops)
+-- the elements that were left out have no texts
+no_parts : (elements : List (ℕ × ℕ)) → told_parts (map (λ at. place at.0 at.1) elements ++ end_list ∷ end_record ∷ []) ≡ []
+no_parts [] = refl
+no_parts (at ∷ elements) = no_parts elements
+
+doubt_parts : (left_out rests_on : List (ℕ × ℕ)) → told_parts (doubt_symbols left_out rests_on) ≡ []
+unfolding doubt_symbols number_symbols list_symbols end_symbols
+doubt_parts left_out rests_on = no_parts rests_on
+
+shown_parts : (places : PlacesModel) (ops : List Op) (left_out rests_on : List (ℕ × ℕ)) → told_parts (flat_map (op_symbols places) ops ++ end_list ∷ doubt_symbols left_out rests_on) ≡ flat_map part_lines ops
+shown_parts places ops left_out rests_on =
+    ops_parts places ops (end_list ∷ doubt_symbols left_out rests_on)
+    ∙ ap (λ (text : List ℕ). flat_map part_lines ops ++ text) (doubt_parts left_out rests_on) ∙ append-nil (flat_map part_lines ops)
 
 -- the witness of a register
 
@@ -207,36 +220,48 @@ fault_told places allowed (Crossing a b c d) symbols = conflict_told (side_holde
 
 -- the record of a register
 
-witness_told : (places : PlacesModel) (allowed : List Allowed) (witness : Witness) → (let shown = fault_symbols places allowed witness ++ list_symbols (codes "witness") ++ flat_map (op_symbols places) (ops_in_roles (roles_of witness)) ++ end_symbols in told_fault shown ++ told_parts (after (codes "witness") shown) ≡ witness_text witness)
+witness_told : (places : PlacesModel) (allowed : List Allowed) (witness : Witness) (left_out rests_on : List (ℕ × ℕ)) → (let shown = (fault_symbols places allowed witness ++ list_symbols (codes "witness") ++ flat_map (op_symbols places) (ops_in_roles (roles_of witness)) ++ end_list ∷ []) ++ doubt_symbols left_out rests_on in told_fault shown ++ told_parts (after (codes "witness") shown) ≡ witness_text witness)
 unfolding list_symbols
-witness_told places allowed witness =
+witness_told places allowed witness left_out rests_on =
     let shown = flat_map (op_symbols places) (ops_in_roles (roles_of witness)) in
-    let end = key (codes "witness") ∷ begin_list ∷ (shown ++ end_symbols) in
+    let tail = end_list ∷ doubt_symbols left_out rests_on in
+    let end = key (codes "witness") ∷ begin_list ∷ (shown ++ tail) in
     let fault = fault_symbols places allowed witness in
     ap (λ (symbols : List Symbol). told_fault symbols ++ told_parts (after (codes "witness") symbols))
-    (append_assoc (fault ++ list_symbols (codes "witness")) shown end_symbols ∙ append_assoc fault (list_symbols (codes "witness")) (shown ++ end_symbols))
+    (append_assoc (fault ++ list_symbols (codes "witness") ++ shown) (end_list ∷ []) (doubt_symbols left_out rests_on)
+    ∙ append_assoc (fault ++ list_symbols (codes "witness")) shown tail ∙ append_assoc fault (list_symbols (codes "witness")) (shown ++ tail))
     ∙ ap (λ (line : List ℕ). line ++ told_parts (after (codes "witness") (fault ++ end))) (fault_told places allowed witness end)
     ∙ ap (λ (symbols : List Symbol). fault_line (ids_of witness) ++ told_parts symbols) (fault_skipped places allowed witness end)
-    ∙ ap (λ (lines : List ℕ). fault_line (ids_of witness) ++ lines) (shown_parts places (ops_in_roles (roles_of witness)))
+    ∙ ap (λ (lines : List ℕ). fault_line (ids_of witness) ++ lines) (shown_parts places (ops_in_roles (roles_of witness)) left_out rests_on)
 
-found_told : (places : PlacesModel) (n : ℕ) (level name : List ℕ) (kind : Kind) (operations : ℕ) (found : Option Witness) (culprit : Bool) (allowed : List Allowed) → told_section (register_symbols places n level name (record { kind = kind; operations = operations; witness = found }) culprit allowed) ≡ register_line name kind (is_none found) operations ++ option_map_or witness_text found []
+-- nor have they keys
+no_key : (name : List ℕ) (elements : List (ℕ × ℕ)) → after name (map (λ at. place at.0 at.1) elements ++ end_list ∷ end_record ∷ []) ≡ []
+no_key name [] = refl
+no_key name (at ∷ elements) = no_key name elements
+
+none_told : (left_out rests_on : List (ℕ × ℕ)) → told_fault (nothing ∷ key (codes "witness") ∷ begin_list ∷ end_list ∷ doubt_symbols left_out rests_on) ++ told_parts (begin_list ∷ end_list ∷ doubt_symbols left_out rests_on) ≡ []
+unfolding doubt_symbols number_symbols list_symbols end_symbols
+none_told left_out rests_on = rw (no_key (codes "kind") rests_on) (no_parts rests_on)
+
+found_told : (places : PlacesModel) (n : ℕ) (level name : List ℕ) (kind : Kind) (operations : ℕ) (found : Option Witness) (culprit : Bool) (allowed : List Allowed) (left_out rests_on : List (ℕ × ℕ)) → told_section (register_symbols places n level name (record { kind = kind; operations = operations; witness = found }) culprit allowed left_out rests_on) ≡ register_line name kind (is_none found) operations ++ option_map_or witness_text found []
 unfolding register_symbols witness_symbols type_symbols number_symbols text_field word_symbols flag_symbols
-found_told places n level name kind operations None culprit allowed = refl
-found_told places n level name kind operations (Some witness) culprit allowed =
-    ap (λ (lines : List ℕ). register_line name kind false operations ++ lines) (witness_told places allowed witness)
+found_told places n level name kind operations None culprit allowed left_out rests_on =
+    ap (λ (lines : List ℕ). register_line name kind true operations ++ lines) (none_told left_out rests_on)
+found_told places n level name kind operations (Some witness) culprit allowed left_out rests_on =
+    ap (λ (lines : List ℕ). register_line name kind false operations ++ lines) (witness_told places allowed witness left_out rests_on)
 
-register_told : (places : PlacesModel) (n : ℕ) (level : List ℕ) (register : Register) (finding : Finding) (culprit : Bool) (allowed : List Allowed) → told_section (register_symbols places n level register.name finding culprit allowed) ≡ section_text register finding
-register_told places n level register finding culprit allowed = found_told places n level register.name finding.kind finding.operations finding.witness culprit allowed
+register_told : (places : PlacesModel) (n : ℕ) (level : List ℕ) (register : Register) (finding : Finding) (culprit : Bool) (allowed : List Allowed) (left_out rests_on : List (ℕ × ℕ)) → told_section (register_symbols places n level register.name finding culprit allowed left_out rests_on) ≡ section_text register finding
+register_told places n level register finding culprit allowed left_out rests_on = found_told places n level register.name finding.kind finding.operations finding.witness culprit allowed left_out rests_on
 
-culprit_told : (places : PlacesModel) (n : ℕ) (level name : List ℕ) (finding : Finding) (culprit : Bool) (allowed : List Allowed) → told_culprit (register_symbols places n level name finding culprit allowed) ≡ (if culprit then codes "culprit " ++ printed name ++ 10 ∷ [] else [])
+culprit_told : (places : PlacesModel) (n : ℕ) (level name : List ℕ) (finding : Finding) (culprit : Bool) (allowed : List Allowed) (left_out rests_on : List (ℕ × ℕ)) → told_culprit (register_symbols places n level name finding culprit allowed left_out rests_on) ≡ (if culprit then codes "culprit " ++ printed name ++ 10 ∷ [] else [])
 unfolding register_symbols type_symbols number_symbols text_field word_symbols flag_symbols
-culprit_told places n level name finding culprit allowed = refl
+culprit_told places n level name finding culprit allowed left_out rests_on = refl
 
 -- the records of the traces
 
-refusal_told : (places : PlacesModel) (feeder event : ℕ) (code : Code) (registers : List Register) → told_note (placed_refusal places feeder event code) ≡ what_line registers feeder event (Refused code)
+refusal_told : (places : PlacesModel) (feeder event : ℕ) (left_out : LeftOut) (registers : List Register) → told_note (placed_refusal places feeder event left_out.code) ≡ what_line registers feeder event (Refused left_out)
 unfolding placed_refusal refusal_symbols type_symbols place_symbols word_symbols
-refusal_told places feeder event code registers = refl
+refusal_told places feeder event left_out registers = refl
 
 answer_told : (places : PlacesModel) (feeder event : ℕ) (name : List ℕ) (holds : Bool) (operations : ℕ) → told_note (answer_symbols places feeder event name holds operations) ≡ codes "answer " ++ place_text feeder event ++ codes " " ++ printed name ++ codes " " ++ verdict_word holds ++ codes " " ++ decimal operations ++ 10 ∷ []
 unfolding answer_symbols type_symbols place_symbols text_field flag_symbols number_symbols
@@ -259,23 +284,23 @@ order_told name (Some ids) = ap (λ (text : List ℕ). codes "order " ++ printed
 
 -- a word that says nothing of the records of one kind
 
-none_of_records : (places : PlacesModel) (f : List Symbol → List ℕ) → ((n : ℕ) (level name : List ℕ) (finding : Finding) (culprit : Bool) (allowed : List Allowed) → f (register_symbols places n level name finding culprit allowed) ≡ []) → (tower : TowerModel) (failing : List Bool) (n : ℕ) (found : Option Register) (finding : Finding) (allowed : List Allowed) → flat_map f (option_map_or (λ register. register_symbols places n (level_name tower.levels register.level) register.name finding (is_culprit failing n register) allowed ∷ []) found []) ≡ []
-none_of_records places f none tower failing n None finding allowed = refl
-none_of_records places f none tower failing n (Some register) finding allowed =
-    append-nil (f (register_symbols places n (level_name tower.levels register.level) register.name finding (is_culprit failing n register) allowed))
-    ∙ none n (level_name tower.levels register.level) register.name finding (is_culprit failing n register) allowed
+none_of_records : (places : PlacesModel) (f : List Symbol → List ℕ) → ((n : ℕ) (level name : List ℕ) (finding : Finding) (culprit : Bool) (allowed : List Allowed) (left_out rests_on : List (ℕ × ℕ)) → f (register_symbols places n level name finding culprit allowed left_out rests_on) ≡ []) → (tower : TowerModel) (failing : List Bool) (doubts : List Doubt) (n : ℕ) (found : Option Register) (finding : Finding) (allowed : List Allowed) → flat_map f (option_map_or (λ register. register_symbols places n (level_name tower.levels register.level) register.name finding (is_culprit failing n register) allowed (left_out_at doubts n) (rests_at doubts n) ∷ []) found []) ≡ []
+none_of_records places f none tower failing doubts n None finding allowed = refl
+none_of_records places f none tower failing doubts n (Some register) finding allowed =
+    append-nil (f (register_symbols places n (level_name tower.levels register.level) register.name finding (is_culprit failing n register) allowed (left_out_at doubts n) (rests_at doubts n)))
+    ∙ none n (level_name tower.levels register.level) register.name finding (is_culprit failing n register) allowed (left_out_at doubts n) (rests_at doubts n)
 
 empty_both : (a b : List ℕ) → a ≡ [] → b ≡ [] → a ++ b ≡ []
 empty_both a b first second = ap (λ (text : List ℕ). text ++ b) first ∙ second
 
-none_of_registers : (places : PlacesModel) (f : List Symbol → List ℕ) → ((n : ℕ) (level name : List ℕ) (finding : Finding) (culprit : Bool) (allowed : List Allowed) → f (register_symbols places n level name finding culprit allowed) ≡ []) → (tower : TowerModel) (failing : List Bool) (n : ℕ) (findings : List Finding) (others : List (List Allowed)) → flat_map f (registers_records places tower failing false n findings others) ≡ []
-none_of_registers places f none tower failing n [] others = refl
-none_of_registers places f none tower failing n (finding ∷ findings) [] = refl
-none_of_registers places f none tower failing n (finding ∷ findings) (allowed ∷ others) =
-    let here = register_record places tower failing n finding allowed in
-    let rest = registers_records places tower failing false (n + 1) findings others in
+none_of_registers : (places : PlacesModel) (f : List Symbol → List ℕ) → ((n : ℕ) (level name : List ℕ) (finding : Finding) (culprit : Bool) (allowed : List Allowed) (left_out rests_on : List (ℕ × ℕ)) → f (register_symbols places n level name finding culprit allowed left_out rests_on) ≡ []) → (tower : TowerModel) (failing : List Bool) (doubts : List Doubt) (n : ℕ) (findings : List Finding) (others : List (List Allowed)) → flat_map f (registers_records places tower failing doubts false n findings others) ≡ []
+none_of_registers places f none tower failing doubts n [] others = refl
+none_of_registers places f none tower failing doubts n (finding ∷ findings) [] = refl
+none_of_registers places f none tower failing doubts n (finding ∷ findings) (allowed ∷ others) =
+    let here = register_record places tower failing doubts n finding allowed in
+    let rest = registers_records places tower failing doubts false (n + 1) findings others in
     flat_map-append f here rest
-    ∙ empty_both (flat_map f here) (flat_map f rest) (none_of_records places f none tower failing n (slice_get tower.registers n) finding allowed) (none_of_registers places f none tower failing (n + 1) findings others)
+    ∙ empty_both (flat_map f here) (flat_map f rest) (none_of_records places f none tower failing doubts n (slice_get tower.registers n) finding allowed) (none_of_registers places f none tower failing doubts (n + 1) findings others)
 
 -- a word that says nothing of the records of the traces
 record SaysNothing (places : PlacesModel) (f : List Symbol → List ℕ) : Type 0 where
@@ -284,7 +309,7 @@ record SaysNothing (places : PlacesModel) (f : List Symbol → List ℕ) : Type 
   broken : (feeder : ℕ) (broken : Broken) → f (placed_break places feeder broken) ≡ []
 
 none_of_what : (places : PlacesModel) (f : List Symbol → List ℕ) → SaysNothing places f → (registers : List Register) (feeder event : ℕ) (what : What) → f (what_record places registers feeder event what) ≡ []
-none_of_what places f none registers feeder event (Refused code) = none.refused feeder event code
+none_of_what places f none registers feeder event (Refused left_out) = none.refused feeder event left_out.code
 none_of_what places f none registers feeder event (Answered register answer) = none.answered feeder event (register_name registers register) answer.holds answer.operations
 
 none_of_lines : (places : PlacesModel) (f : List Symbol → List ℕ) → SaysNothing places f → (registers : List Register) (feeder : ℕ) (lines : List Line) → flat_map f (map (line_record places registers feeder) lines) ≡ []
@@ -335,13 +360,13 @@ note_of_no_order : (name : List ℕ) (ids : Option (List OpId)) → told_note (o
 unfolding order_symbols type_symbols
 note_of_no_order name ids = refl
 
-note_of_no_register : (places : PlacesModel) (n : ℕ) (level name : List ℕ) (finding : Finding) (culprit : Bool) (allowed : List Allowed) → told_note (register_symbols places n level name finding culprit allowed) ≡ []
+note_of_no_register : (places : PlacesModel) (n : ℕ) (level name : List ℕ) (finding : Finding) (culprit : Bool) (allowed : List Allowed) (left_out rests_on : List (ℕ × ℕ)) → told_note (register_symbols places n level name finding culprit allowed left_out rests_on) ≡ []
 unfolding register_symbols type_symbols
-note_of_no_register places n level name finding culprit allowed = refl
+note_of_no_register places n level name finding culprit allowed left_out rests_on = refl
 
-order_of_no_register : (places : PlacesModel) (n : ℕ) (level name : List ℕ) (finding : Finding) (culprit : Bool) (allowed : List Allowed) → told_order (register_symbols places n level name finding culprit allowed) ≡ []
+order_of_no_register : (places : PlacesModel) (n : ℕ) (level name : List ℕ) (finding : Finding) (culprit : Bool) (allowed : List Allowed) (left_out rests_on : List (ℕ × ℕ)) → told_order (register_symbols places n level name finding culprit allowed left_out rests_on) ≡ []
 unfolding register_symbols type_symbols
-order_of_no_register places n level name finding culprit allowed = refl
+order_of_no_register places n level name finding culprit allowed left_out rests_on = refl
 
 -- a word that says nothing of the first and the last record
 record SaysMiddle (f : List Symbol → List ℕ) : Type 0 where
@@ -376,24 +401,24 @@ are_next registers rest n register are k =
     let next : n + 1 + k ≡ n + suc k = omega arith in
     ap (λ (place : ℕ). slice_get registers place) next ∙ are (suc k)
 
-record_at : (places : PlacesModel) (tower : TowerModel) (failing : List Bool) (n : ℕ) (register : Register) (finding : Finding) (allowed : List Allowed) → slice_get tower.registers n ≡ Some register → register_record places tower failing n finding allowed ≡ register_symbols places n (level_name tower.levels register.level) register.name finding (is_culprit failing n register) allowed ∷ []
-record_at places tower failing n register finding allowed at =
-    ap (λ (found : Option Register). option_map_or (λ (one : Register). register_symbols places n (level_name tower.levels one.level) one.name finding (is_culprit failing n one) allowed ∷ []) found []) at
+record_at : (places : PlacesModel) (tower : TowerModel) (failing : List Bool) (doubts : List Doubt) (n : ℕ) (register : Register) (finding : Finding) (allowed : List Allowed) → slice_get tower.registers n ≡ Some register → register_record places tower failing doubts n finding allowed ≡ register_symbols places n (level_name tower.levels register.level) register.name finding (is_culprit failing n register) allowed (left_out_at doubts n) (rests_at doubts n) ∷ []
+record_at places tower failing doubts n register finding allowed at =
+    ap (λ (found : Option Register). option_map_or (λ (one : Register). register_symbols places n (level_name tower.levels one.level) one.name finding (is_culprit failing n one) allowed (left_out_at doubts n) (rests_at doubts n) ∷ []) found []) at
 
-told_at : (places : PlacesModel) (f : List Symbol → List ℕ) (tower : TowerModel) (failing : List Bool) (n : ℕ) (register : Register) (finding : Finding) (allowed : List Allowed) (rest : List (List Symbol)) → slice_get tower.registers n ≡ Some register → flat_map f (register_record places tower failing n finding allowed ++ rest) ≡ f (register_symbols places n (level_name tower.levels register.level) register.name finding (is_culprit failing n register) allowed) ++ flat_map f rest
-told_at places f tower failing n register finding allowed rest at =
-    ap (λ (records : List (List Symbol)). flat_map f (records ++ rest)) (record_at places tower failing n register finding allowed at)
+told_at : (places : PlacesModel) (f : List Symbol → List ℕ) (tower : TowerModel) (failing : List Bool) (doubts : List Doubt) (n : ℕ) (register : Register) (finding : Finding) (allowed : List Allowed) (rest : List (List Symbol)) → slice_get tower.registers n ≡ Some register → flat_map f (register_record places tower failing doubts n finding allowed ++ rest) ≡ f (register_symbols places n (level_name tower.levels register.level) register.name finding (is_culprit failing n register) allowed (left_out_at doubts n) (rests_at doubts n)) ++ flat_map f rest
+told_at places f tower failing doubts n register finding allowed rest at =
+    ap (λ (records : List (List Symbol)). flat_map f (records ++ rest)) (record_at places tower failing doubts n register finding allowed at)
 
-sections_told : (places : PlacesModel) (tower : TowerModel) (failing : List Bool) (n : ℕ) (rest : List Register) (findings : List Finding) (others : List (List Allowed)) → ((k : ℕ) → slice_get tower.registers (n + k) ≡ slice_get rest k) → length findings ≡ length rest → length others ≡ length findings → flat_map told_section (registers_records places tower failing false n findings others) ≡ sections_text rest findings
-sections_told places tower failing n [] [] others are many each = refl
-sections_told places tower failing n [] (finding ∷ findings) others are many each = absurd (omega arith)
-sections_told places tower failing n (register ∷ rest) [] others are many each = absurd (omega arith)
-sections_told places tower failing n (register ∷ rest) (finding ∷ findings) [] are many each = absurd (omega arith)
-sections_told places tower failing n (register ∷ rest) (finding ∷ findings) (allowed ∷ others) are many each =
-    let more = registers_records places tower failing false (n + 1) findings others in
-    told_at places told_section tower failing n register finding allowed more (is_at tower.registers rest n register are)
-    ∙ ap (λ (text : List ℕ). text ++ flat_map told_section more) (register_told places n (level_name tower.levels register.level) register finding (is_culprit failing n register) allowed)
-    ∙ ap (λ (text : List ℕ). section_text register finding ++ text) (sections_told places tower failing (n + 1) rest findings others (are_next tower.registers rest n register are) (omega arith) (omega arith))
+sections_told : (places : PlacesModel) (tower : TowerModel) (failing : List Bool) (doubts : List Doubt) (n : ℕ) (rest : List Register) (findings : List Finding) (others : List (List Allowed)) → ((k : ℕ) → slice_get tower.registers (n + k) ≡ slice_get rest k) → length findings ≡ length rest → length others ≡ length findings → flat_map told_section (registers_records places tower failing doubts false n findings others) ≡ sections_text rest findings
+sections_told places tower failing doubts n [] [] others are many each = refl
+sections_told places tower failing doubts n [] (finding ∷ findings) others are many each = absurd (omega arith)
+sections_told places tower failing doubts n (register ∷ rest) [] others are many each = absurd (omega arith)
+sections_told places tower failing doubts n (register ∷ rest) (finding ∷ findings) [] are many each = absurd (omega arith)
+sections_told places tower failing doubts n (register ∷ rest) (finding ∷ findings) (allowed ∷ others) are many each =
+    let more = registers_records places tower failing doubts false (n + 1) findings others in
+    told_at places told_section tower failing doubts n register finding allowed more (is_at tower.registers rest n register are)
+    ∙ ap (λ (text : List ℕ). text ++ flat_map told_section more) (register_told places n (level_name tower.levels register.level) register finding (is_culprit failing n register) allowed (left_out_at doubts n) (rests_at doubts n))
+    ∙ ap (λ (text : List ℕ). section_text register finding ++ text) (sections_told places tower failing doubts (n + 1) rest findings others (are_next tower.registers rest n register are) (omega arith) (omega arith))
 
 culprit_at : (registers : List Register) (n : ℕ) (register : Register) → slice_get registers n ≡ Some register → codes "culprit " ++ printed register.name ++ 10 ∷ [] ≡ culprit_line registers (record { 0 = n })
 culprit_at registers n register at =
@@ -403,25 +428,25 @@ culprit_next : (registers : List Register) (culprit : Bool) (line : List ℕ) (i
 culprit_next registers true line id more is = ap (λ (text : List ℕ). text ++ flat_map (culprit_line registers) more) is
 culprit_next registers false line id more is = refl
 
-culprits_told : (places : PlacesModel) (tower : TowerModel) (failing : List Bool) (n : ℕ) (rest : List Register) (findings : List Finding) (others : List (List Allowed)) → ((k : ℕ) → slice_get tower.registers (n + k) ≡ slice_get rest k) → length findings ≡ length rest → length others ≡ length findings → flat_map told_culprit (registers_records places tower failing false n findings others) ≡ flat_map (culprit_line tower.registers) (culprits_from failing n rest)
-culprits_told places tower failing n [] [] others are many each = refl
-culprits_told places tower failing n [] (finding ∷ findings) others are many each = absurd (omega arith)
-culprits_told places tower failing n (register ∷ rest) [] others are many each = absurd (omega arith)
-culprits_told places tower failing n (register ∷ rest) (finding ∷ findings) [] are many each = absurd (omega arith)
-culprits_told places tower failing n (register ∷ rest) (finding ∷ findings) (allowed ∷ others) are many each =
-    let more = registers_records places tower failing false (n + 1) findings others in
+culprits_told : (places : PlacesModel) (tower : TowerModel) (failing : List Bool) (doubts : List Doubt) (n : ℕ) (rest : List Register) (findings : List Finding) (others : List (List Allowed)) → ((k : ℕ) → slice_get tower.registers (n + k) ≡ slice_get rest k) → length findings ≡ length rest → length others ≡ length findings → flat_map told_culprit (registers_records places tower failing doubts false n findings others) ≡ flat_map (culprit_line tower.registers) (culprits_from failing n rest)
+culprits_told places tower failing doubts n [] [] others are many each = refl
+culprits_told places tower failing doubts n [] (finding ∷ findings) others are many each = absurd (omega arith)
+culprits_told places tower failing doubts n (register ∷ rest) [] others are many each = absurd (omega arith)
+culprits_told places tower failing doubts n (register ∷ rest) (finding ∷ findings) [] are many each = absurd (omega arith)
+culprits_told places tower failing doubts n (register ∷ rest) (finding ∷ findings) (allowed ∷ others) are many each =
+    let more = registers_records places tower failing doubts false (n + 1) findings others in
     let culprit = is_culprit failing n register in
     let at = is_at tower.registers rest n register are in
     let line = codes "culprit " ++ printed register.name ++ 10 ∷ [] in
-    told_at places told_culprit tower failing n register finding allowed more at
-    ∙ ap (λ (text : List ℕ). text ++ flat_map told_culprit more) (culprit_told places n (level_name tower.levels register.level) register.name finding culprit allowed)
-    ∙ ap (λ (text : List ℕ). (if culprit then line else []) ++ text) (culprits_told places tower failing (n + 1) rest findings others (are_next tower.registers rest n register are) (omega arith) (omega arith))
+    told_at places told_culprit tower failing doubts n register finding allowed more at
+    ∙ ap (λ (text : List ℕ). text ++ flat_map told_culprit more) (culprit_told places n (level_name tower.levels register.level) register.name finding culprit allowed (left_out_at doubts n) (rests_at doubts n))
+    ∙ ap (λ (text : List ℕ). (if culprit then line else []) ++ text) (culprits_told places tower failing doubts (n + 1) rest findings others (are_next tower.registers rest n register are) (omega arith) (omega arith))
     ∙ culprit_next tower.registers culprit line (record { 0 = n }) (culprits_from failing (n + 1) rest) (culprit_at tower.registers n register at)
 
 -- the traces
 
 what_told : (places : PlacesModel) (registers : List Register) (feeder event : ℕ) (what : What) → told_note (what_record places registers feeder event what) ≡ what_line registers feeder event what
-what_told places registers feeder event (Refused code) = refusal_told places feeder event code registers
+what_told places registers feeder event (Refused left_out) = refusal_told places feeder event left_out registers
 what_told places registers feeder event (Answered register answer) = answer_told places feeder event (register_name registers register) answer.holds answer.operations
 
 lines_told : (places : PlacesModel) (registers : List Register) (feeder : ℕ) (lines : List Line) → flat_map told_note (map (line_record places registers feeder) lines) ≡ flat_map (note_line registers feeder) lines
@@ -478,31 +503,31 @@ only_third a b c first second = ap (λ (text : List ℕ). text ++ b ++ c) first 
 joined : (a b c d one two three four : List ℕ) → a ≡ one → b ≡ two → c ≡ three → d ≡ four → a ++ b ++ c ++ d ≡ one ++ two ++ three ++ four
 joined a b c d one two three four first second third fourth = cc
 
-run_told : (places : PlacesModel) (names : RunNames) (status : ℕ) (tower : TowerModel) (findings : List Finding) (allowed : List (List Allowed)) (logs : List Log) (asked : Option (RegId × Option (List OpId))) → length findings ≡ length tower.registers → length allowed ≡ length findings → report_of (records_of places names false status tower findings allowed logs asked) ≡ report_text tower findings logs asked
-run_told places names status tower findings allowed logs asked many each =
+run_told : (places : PlacesModel) (names : RunNames) (status : ℕ) (tower : TowerModel) (findings : List Finding) (doubts : List Doubt) (allowed : List (List Allowed)) (logs : List Log) (asked : Option (RegId × Option (List OpId))) → length findings ≡ length tower.registers → length allowed ≡ length findings → report_of (records_of places names false status tower findings doubts allowed logs asked) ≡ report_text tower findings logs asked
+run_told places names status tower findings doubts allowed logs asked many each =
     let failing = fails_of findings in
     let first = head_record names.tower (length tower.registers) names.traces names.moments in
     let last = end_of_records status (totals_of tower findings logs) in
-    let of_registers = registers_records places tower failing false 0 findings allowed in
+    let of_registers = registers_records places tower failing doubts false 0 findings allowed in
     let of_logs = logs_records places tower.registers 0 logs in
     let of_asked = asked_records tower.registers asked in
     let are = λ (k : ℕ). (let here : 0 + k ≡ k = omega arith in ap (λ (place : ℕ). slice_get tower.registers place) here) in
     let parts = λ (f : List Symbol → List ℕ) (middle : SaysMiddle f). in_parts f first last of_registers of_logs of_asked (middle.first names.tower (length tower.registers) names.traces names.moments) (middle.last status (totals_of tower findings logs)) in
-    let sections : flat_map told_section (records_of places names false status tower findings allowed logs asked) ≡ sections_text tower.registers findings =
+    let sections : flat_map told_section (records_of places names false status tower findings doubts allowed logs asked) ≡ sections_text tower.registers findings =
     parts told_section section_of_middle
     ∙ only_first (flat_map told_section of_registers) (flat_map told_section of_logs) (flat_map told_section of_asked) (none_of_logs places told_section (section_of_no_note places) tower.registers 0 logs) (none_of_asked told_section section_of_no_order tower.registers asked)
-    ∙ sections_told places tower failing 0 tower.registers findings allowed are many each in
-    let culprits : flat_map told_culprit (records_of places names false status tower findings allowed logs asked) ≡ flat_map (culprit_line tower.registers) (culprits_of tower findings) =
+    ∙ sections_told places tower failing doubts 0 tower.registers findings allowed are many each in
+    let culprits : flat_map told_culprit (records_of places names false status tower findings doubts allowed logs asked) ≡ flat_map (culprit_line tower.registers) (culprits_of tower findings) =
     parts told_culprit culprit_of_middle
     ∙ only_first (flat_map told_culprit of_registers) (flat_map told_culprit of_logs) (flat_map told_culprit of_asked) (none_of_logs places told_culprit (culprit_of_no_note places) tower.registers 0 logs) (none_of_asked told_culprit culprit_of_no_order tower.registers asked)
-    ∙ culprits_told places tower failing 0 tower.registers findings allowed are many each in
-    let notes : flat_map told_note (records_of places names false status tower findings allowed logs asked) ≡ logs_text tower.registers 0 logs =
+    ∙ culprits_told places tower failing doubts 0 tower.registers findings allowed are many each in
+    let notes : flat_map told_note (records_of places names false status tower findings doubts allowed logs asked) ≡ logs_text tower.registers 0 logs =
     parts told_note note_of_middle
-    ∙ only_second (flat_map told_note of_registers) (flat_map told_note of_logs) (flat_map told_note of_asked) (none_of_registers places told_note (note_of_no_register places) tower failing 0 findings allowed) (none_of_asked told_note note_of_no_order tower.registers asked)
+    ∙ only_second (flat_map told_note of_registers) (flat_map told_note of_logs) (flat_map told_note of_asked) (none_of_registers places told_note (note_of_no_register places) tower failing doubts 0 findings allowed) (none_of_asked told_note note_of_no_order tower.registers asked)
     ∙ logs_told places tower.registers 0 logs in
-    let order : flat_map told_order (records_of places names false status tower findings allowed logs asked) ≡ order_line tower.registers asked =
+    let order : flat_map told_order (records_of places names false status tower findings doubts allowed logs asked) ≡ order_line tower.registers asked =
     parts told_order order_of_middle
-    ∙ only_third (flat_map told_order of_registers) (flat_map told_order of_logs) (flat_map told_order of_asked) (none_of_registers places told_order (order_of_no_register places) tower failing 0 findings allowed) (none_of_logs places told_order (order_of_no_note places) tower.registers 0 logs)
+    ∙ only_third (flat_map told_order of_registers) (flat_map told_order of_logs) (flat_map told_order of_asked) (none_of_registers places told_order (order_of_no_register places) tower failing doubts 0 findings allowed) (none_of_logs places told_order (order_of_no_note places) tower.registers 0 logs)
     ∙ asked_told tower.registers asked in
     joined _ _ _ _ _ _ _ _ sections culprits notes order
 
@@ -521,5 +546,5 @@ the_records_tell names status tower closed logs order texts records are = record
   found = are.found;
   asked = are.asked;
   is_asked = are.is_asked;
-  text_is = ap report_of are.records_are ∙ run_told are.places names status tower are.findings are.allowed logs are.asked are.many (allowed_many tower closed 0 are.findings are.allowed are.explained);
+  text_is = ap report_of are.records_are ∙ run_told are.places names status tower are.findings are.doubts are.allowed logs are.asked are.many (allowed_many tower closed 0 are.findings are.allowed are.explained);
 }

@@ -1,6 +1,5 @@
 -- The first and the last record of a run, and the record of an order.
-use Rattle.std.specs.Prelude.{ℕ, Bool, List, [], ◌∷◌, ◌++◌, Option, Some, None, codes, map}
-use Rattle.std.specs.Fmt.{decimal}
+use Rattle.std.specs.Prelude.{ℕ, List, [], ◌∷◌, ◌++◌, Option, Some, None, codes, map}
 use Rattle.intervals.specs.declared.operation.OpId.{OpId}
 use Rattle.records.specs.declared.ends.Totals.{Totals}
 use Rattle.records.specs.Field.{list_symbols, number_symbols, text_field, type_symbols, word_symbols}

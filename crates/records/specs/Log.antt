@@ -1,5 +1,5 @@
 -- The records of the traces: refusals and answers, and where a trace broke.
-use Rattle.std.specs.Prelude.{ℕ, Bool, List, Option, [], ◌∷◌, ◌++◌, codes, flat_map, map}
+use Rattle.std.specs.Prelude.{ℕ, Bool, List, [], ◌∷◌, ◌++◌, codes, flat_map, map}
 use Rattle.intervals.specs.declared.claim.Holder.{Holder}
 use Rattle.intervals.specs.declared.claim.Holder.TheVariants as holders
 use Rattle.intervals.specs.declared.refusal.Refusal.{Refusal}
@@ -9,7 +9,6 @@ use Rattle.logs.specs.declared.log.Broken.{Broken}
 use Rattle.logs.specs.declared.log.Code.{Code}
 use Rattle.logs.specs.declared.log.Code.TheVariants.{Form, Pair, Register}
 use Rattle.records.specs.Field.{end_symbols, flag_symbols, list_symbols, number_symbols, place_symbols, text_field, type_symbols, word_symbols}
-use Rattle.places.specs.declared.location.Location.{Location}
 use Rattle.places.specs.Spots.{PlacesModel, line_of_byte, located}
 use Rattle.records.specs.Spot.{holder_record, known_symbol, spot_symbols}
 use Rattle.records.specs.Symbol.{Symbol, end_list, end_record, key}

@@ -43,6 +43,6 @@ ended_symbols feeder elements =
 -- the record of a notice
 abbrev pub notice_symbols : List Register → Notice → List Symbol
 notice_symbols registers (Changed feeder event change) = change_symbols (register_name registers change.register) feeder event change
-notice_symbols registers (Refused feeder event code) = refused_symbols feeder event code
+notice_symbols registers (Refused feeder event left_out) = refused_symbols feeder event left_out.code
 notice_symbols registers (Broke feeder broken) = broken_symbols feeder broken
 notice_symbols registers (Ended feeder elements) = ended_symbols feeder elements

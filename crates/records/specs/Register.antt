@@ -1,5 +1,5 @@
 -- The record of a register.
-use Rattle.std.specs.Prelude.{ℕ, Bool, List, [], ◌∷◌, ◌++◌, Option, Some, None, codes, flat_map, is_none}
+use Rattle.std.specs.Prelude.{ℕ, Bool, List, [], ◌∷◌, ◌++◌, Option, Some, None, codes, flat_map, is_none, length, map}
 use Rattle.register_book.specs.declared.fault.Witness.{Witness}
 use Rattle.register_book.specs.Fault.{ops_in_roles, roles_of}
 use Rattle.report.specs.declared.finding.Finding.{Finding}
@@ -9,17 +9,17 @@ use Rattle.records.specs.declared.allowed.Allowed.{Allowed}
 use Rattle.records.specs.Fault.{fault_symbols}
 use Rattle.records.specs.Field.{end_symbols, flag_symbols, list_symbols, number_symbols, text_field, type_symbols, word_symbols}
 use Rattle.records.specs.Operation.{op_symbols}
-use Rattle.records.specs.Symbol.{Symbol, begin_list, end_list, end_record, key, nothing}
+use Rattle.records.specs.Symbol.{Symbol, begin_list, end_list, key, nothing, place}
 
--- the end of a register's record, where it fails: the fault, and the operations that show it
+-- why a register fails: the fault, and the operations that show it
 unfoldable pub witness_symbols : PlacesModel → List Allowed → Witness → List Symbol
 witness_symbols places allowed witness =
     (key (codes "fault") ∷ []) ++ fault_symbols places allowed witness ++ list_symbols (codes "witness")
-    ++ flat_map (op_symbols places) (ops_in_roles (roles_of witness)) ++ end_symbols
+    ++ flat_map (op_symbols places) (ops_in_roles (roles_of witness)) ++ end_list ∷ []
 
--- the end of a register's record: its fault with the operations that show it, or none
+-- the fault of a register with the operations that show it, or none
 abbrev pub found_symbols : PlacesModel → List Allowed → Option Witness → List Symbol
-found_symbols places allowed None = key (codes "fault") ∷ nothing ∷ key (codes "witness") ∷ begin_list ∷ end_list ∷ end_record ∷ []
+found_symbols places allowed None = key (codes "fault") ∷ nothing ∷ key (codes "witness") ∷ begin_list ∷ end_list ∷ []
 found_symbols places allowed (Some witness) = witness_symbols places allowed witness
 
 -- the number of a register, the name of its level, and its name
@@ -34,8 +34,13 @@ verdict_symbols finding = word_symbols (codes "kind") (kind_word finding.kind) +
 abbrev pub blame_symbols : ℕ → Bool → List Symbol
 blame_symbols operations culprit = number_symbols (codes "operations") operations ++ flag_symbols (codes "culprit") culprit
 
+-- how many elements of a register were left out, and those of them on which its failure rests, with which its record ends
+unfoldable pub doubt_symbols : List (ℕ × ℕ) → List (ℕ × ℕ) → List Symbol
+doubt_symbols left_out rests_on =
+    number_symbols (codes "left_out") (length left_out) ++ list_symbols (codes "rests_on") ++ map (λ at. place at.0 at.1) rests_on ++ end_symbols
+
 -- the record of a register
-unfoldable pub register_symbols : PlacesModel → ℕ → List ℕ → List ℕ → Finding → Bool → List Allowed → List Symbol
-register_symbols places n level name finding culprit allowed =
+unfoldable pub register_symbols : PlacesModel → ℕ → List ℕ → List ℕ → Finding → Bool → List Allowed → List (ℕ × ℕ) → List (ℕ × ℕ) → List Symbol
+register_symbols places n level name finding culprit allowed left_out rests_on =
     type_symbols (codes "register") ++ register_names n level name ++ verdict_symbols finding ++ blame_symbols finding.operations culprit
-    ++ found_symbols places allowed finding.witness
+    ++ found_symbols places allowed finding.witness ++ doubt_symbols left_out rests_on

@@ -13,6 +13,8 @@ use Rattle.logs.specs.declared.log.What.{What}
 use Rattle.logs.specs.declared.log.What.TheVariants.{Refused, Answered}
 use Rattle.places.specs.Spots.{HasSpots, PlacesModel}
 use Rattle.report.specs.declared.finding.Finding.{Finding}
+use Rattle.report.specs.declared.doubt.Doubt.{Doubt}
+use Rattle.report.specs.Doubt.{AreDoubts, left_out_at, rests_at}
 use Rattle.report.specs.Culprit.{culprits_of, is_culprit}
 use Rattle.report.specs.Finding.{AreFindings, fails_of}
 use Rattle.report.specs.Listing.{level_name}
@@ -36,26 +38,26 @@ abbrev pub has_record : Bool → Finding → Bool
 has_record only finding = not only || is_failing finding
 
 -- the record of the register of this number, as a list; none where there is no such register
-abbrev pub register_record : PlacesModel → TowerModel → List Bool → ℕ → Finding → List Allowed → List (List Symbol)
-register_record places tower failing n finding allowed =
+abbrev pub register_record : PlacesModel → TowerModel → List Bool → List Doubt → ℕ → Finding → List Allowed → List (List Symbol)
+register_record places tower failing doubts n finding allowed =
     option_map_or
-    (λ register. register_symbols places n (level_name tower.levels register.level) register.name finding (is_culprit failing n register) allowed ∷ [])
+    (λ register. register_symbols places n (level_name tower.levels register.level) register.name finding (is_culprit failing n register) allowed (left_out_at doubts n) (rests_at doubts n) ∷ [])
     (slice_get tower.registers n) []
 
 -- the record of a register, as a list; none where it has none
-abbrev pub one_record : PlacesModel → TowerModel → List Bool → Bool → ℕ → Finding → List Allowed → List (List Symbol)
-one_record places tower failing only n finding allowed = if has_record only finding then register_record places tower failing n finding allowed else []
+abbrev pub one_record : PlacesModel → TowerModel → List Bool → List Doubt → Bool → ℕ → Finding → List Allowed → List (List Symbol)
+one_record places tower failing doubts only n finding allowed = if has_record only finding then register_record places tower failing doubts n finding allowed else []
 
 -- the records of the registers from this number on
-abbrev pub registers_records : PlacesModel → TowerModel → List Bool → Bool → ℕ → List Finding → List (List Allowed) → List (List Symbol)
-registers_records places tower failing only n [] others = []
-registers_records places tower failing only n (finding ∷ findings) [] = []
-registers_records places tower failing only n (finding ∷ findings) (allowed ∷ others) =
-    one_record places tower failing only n finding allowed ++ registers_records places tower failing only (n + 1) findings others
+abbrev pub registers_records : PlacesModel → TowerModel → List Bool → List Doubt → Bool → ℕ → List Finding → List (List Allowed) → List (List Symbol)
+registers_records places tower failing doubts only n [] others = []
+registers_records places tower failing doubts only n (finding ∷ findings) [] = []
+registers_records places tower failing doubts only n (finding ∷ findings) (allowed ∷ others) =
+    one_record places tower failing doubts only n finding allowed ++ registers_records places tower failing doubts only (n + 1) findings others
 
 -- the record of a refusal or of an answer
 abbrev pub what_record : PlacesModel → List Register → ℕ → ℕ → What → List Symbol
-what_record places registers feeder event (Refused code) = placed_refusal places feeder event code
+what_record places registers feeder event (Refused left_out) = placed_refusal places feeder event left_out.code
 what_record places registers feeder event (Answered register answer) =
     answer_symbols places feeder event (register_name registers register) answer.holds answer.operations
 
@@ -111,9 +113,9 @@ pub record AreRunPlaces (texts : List (List ℕ)) (findings : List Finding) (log
   pub spots : IsTrue (names_elements findings logs) → HasSpots places
 
 -- all records of a run between the first and the last
-abbrev pub middle_records : PlacesModel → TowerModel → Bool → List Finding → List (List Allowed) → List Log → Option (RegId × Option (List OpId)) → List (List Symbol)
-middle_records places tower only findings allowed logs asked =
-    registers_records places tower (fails_of findings) only 0 findings allowed ++ logs_records places tower.registers 0 logs ++ asked_records tower.registers asked
+abbrev pub middle_records : PlacesModel → TowerModel → Bool → List Finding → List Doubt → List (List Allowed) → List Log → Option (RegId × Option (List OpId)) → List (List Symbol)
+middle_records places tower only findings doubts allowed logs asked =
+    registers_records places tower (fails_of findings) doubts only 0 findings allowed ++ logs_records places tower.registers 0 logs ++ asked_records tower.registers asked
 
 -- what the first record of a run names: the tower file, the traces, and the field that has the moments
 pub record RunNames : Type 0 where
@@ -126,10 +128,10 @@ abbrev pub names_of : Form → RunNames
 names_of form = record { tower = form.tower.now; traces = map (λ name. name.now) form.traces.now; moments = form.moments.now }
 
 -- all records of a run
-abbrev pub records_of : PlacesModel → RunNames → Bool → ℕ → TowerModel → List Finding → List (List Allowed) → List Log → Option (RegId × Option (List OpId)) → List (List Symbol)
-records_of places names only status tower findings allowed logs asked =
+abbrev pub records_of : PlacesModel → RunNames → Bool → ℕ → TowerModel → List Finding → List Doubt → List (List Allowed) → List Log → Option (RegId × Option (List OpId)) → List (List Symbol)
+records_of places names only status tower findings doubts allowed logs asked =
     (head_record names.tower (length tower.registers) names.traces names.moments ∷ [])
-    ++ middle_records places tower only findings allowed logs asked
+    ++ middle_records places tower only findings doubts allowed logs asked
     ++ end_of_records status (totals_of tower findings logs) ∷ []
 
 -- the records of what is found of each register, of these logs, and of the order that is asked for, if any, with the
@@ -138,23 +140,25 @@ pub record AreRecordsOfRun (names : RunNames) (only : Bool) (status : ℕ) (towe
   pub findings : List Finding
   pub many : length findings ≡ length tower.registers
   pub found : AreFindings closed 0 findings
+  pub doubts : List Doubt
+  pub doubted : AreDoubts findings logs doubts
   pub allowed : List (List Allowed)
   pub explained : AreAllowed tower closed 0 findings allowed
   pub asked : Option (RegId × Option (List OpId))
   pub is_asked : IsAsked closed order asked
   pub places : PlacesModel
   pub are_places : AreRunPlaces texts findings logs places
-  pub records_are : records ≡ records_of places names only status tower findings allowed logs asked
+  pub records_are : records ≡ records_of places names only status tower findings doubts allowed logs asked
 
 -- the text of records: each on a line of its own
 abbrev pub lines_of : Notation → List (List Symbol) → List ℕ
 lines_of notation records = flat_map (record_line notation) records
 
 -- the lines of the records of a run, part by part
-abbrev pub run_lines : PlacesModel → Notation → RunNames → Bool → ℕ → TowerModel → List Finding → List (List Allowed) → List Log → Option (RegId × Option (List OpId)) → List ℕ
-run_lines places notation names only status tower findings allowed logs asked =
+abbrev pub run_lines : PlacesModel → Notation → RunNames → Bool → ℕ → TowerModel → List Finding → List Doubt → List (List Allowed) → List Log → Option (RegId × Option (List OpId)) → List ℕ
+run_lines places notation names only status tower findings doubts allowed logs asked =
     record_line notation (head_record names.tower (length tower.registers) names.traces names.moments)
-    ++ lines_of notation (registers_records places tower (fails_of findings) only 0 findings allowed)
+    ++ lines_of notation (registers_records places tower (fails_of findings) doubts only 0 findings allowed)
     ++ lines_of notation (logs_records places tower.registers 0 logs)
     ++ lines_of notation (asked_records tower.registers asked)
     ++ record_line notation (end_of_records status (totals_of tower findings logs))

@@ -51,8 +51,8 @@ fn add_notice<'a>(
         Notice::Refused {
             feeder,
             place,
-            code,
-        } => add_refused(tokens, u64::from(*feeder), *place, code),
+            left_out,
+        } => add_refused(tokens, u64::from(*feeder), *place, &left_out.code),
         Notice::Broke { feeder, broken } => add_broken(tokens, u64::from(*feeder), *broken),
         Notice::Ended { feeder, elements } => add_ended(tokens, u64::from(*feeder), *elements),
     }

@@ -1,8 +1,8 @@
 //! The records of registers.
 
-ghost use Rattle.std.specs.Prelude.{◌≡◌, ◌++◌, OnOk};
-ghost use Rattle.records.specs.Register.{blame_symbols, found_symbols, register_names, register_symbols, verdict_symbols, witness_symbols};
-ghost use Rattle.records.specs.Symbol.{symbols_of};
+ghost use Rattle.std.specs.Prelude.{◌≡◌, ◌++◌, OnOk, map};
+ghost use Rattle.records.specs.Register.{blame_symbols, doubt_symbols, found_symbols, register_names, register_symbols, verdict_symbols, witness_symbols};
+ghost use Rattle.records.specs.Symbol.{place, symbols_of};
 
 use crate::allowed::Allowed;
 use crate::fault::add_fault;
@@ -23,8 +23,15 @@ pub struct RegisterNames<'a> {
     pub name: &'a [u8],
 }
 
-/// Adds the record of a register: its names, what is found of it, whether it is to blame, and what a wrong read might
-/// have returned.
+/// The elements of a register that were left out, and those on which its failure rests, lent.
+#[derive(Clone, Copy)]
+pub struct LentDoubt<'d> {
+    pub left_out: &'d [(usize, u64)],
+    pub rests_on: &'d [(usize, u64)],
+}
+
+/// Adds the record of a register: its names, what is found of it, whether it is to blame, what a wrong read might have
+/// returned, and what was left out.
 #[tactic(auto, unfolding(crate::specs::Register::register_symbols))]
 pub fn add_register<'a>(
     tokens: &mut Vec<RecordToken<'a>>,
@@ -33,14 +40,16 @@ pub fn add_register<'a>(
     finding: &Finding<'a>,
     culprit: bool,
     allowed: &[Allowed],
+    doubt: LentDoubt,
 ) -> Result<(), AllocError>
-    ensures { OnOk result (symbols_of tokens.new.items ≡ symbols_of tokens.old.items ++ register_symbols places.now names.now.number names.now.level.now names.now.name.now finding.now culprit allowed.now) }
+    ensures { OnOk result (symbols_of tokens.new.items ≡ symbols_of tokens.old.items ++ register_symbols places.now names.now.number names.now.level.now names.now.name.now finding.now culprit allowed.now doubt.entry.left_out.now doubt.entry.rests_on.now) }
 {
     add_type(tokens, "register")?;
     add_names(tokens, names.number, names.level, names.name)?;
     add_verdict(tokens, finding)?;
     add_blame(tokens, finding.operations, culprit)?;
-    add_found(tokens, places, allowed, &finding.witness)
+    add_found(tokens, places, allowed, &finding.witness)?;
+    add_doubt(tokens, doubt.left_out, doubt.rests_on)
 }
 
 fn add_names<'a>(
@@ -90,7 +99,6 @@ fn add_found<'a>(
             RecordToken::Key("witness"),
             RecordToken::BeginList,
             RecordToken::EndList,
-            RecordToken::EndRecord,
         ]),
     }
 }
@@ -108,5 +116,33 @@ fn add_witness<'a>(
     add_fault(tokens, places, allowed, witness)?;
     add_list(tokens, "witness")?;
     add_ops(tokens, places, &witness.roles())?;
+    tokens.push(RecordToken::EndList)?;
+    Ok(())
+}
+
+#[tactic(auto, unfolding(crate::specs::Register::doubt_symbols))]
+fn add_doubt<'a>(
+    tokens: &mut Vec<RecordToken<'a>>,
+    left_out: &[(usize, u64)],
+    rests_on: &[(usize, u64)],
+) -> Result<(), AllocError>
+    ensures { OnOk result (symbols_of tokens.new.items ≡ symbols_of tokens.old.items ++ doubt_symbols left_out.now rests_on.now) }
+{
+    add_number(tokens, "left_out", left_out.len() as u64)?;
+    add_list(tokens, "rests_on")?;
+    add_elements(tokens, rests_on)?;
     add_end(tokens)
+}
+
+/// Adds elements, each by the number of its trace and its place there.
+fn add_elements<'a>(
+    tokens: &mut Vec<RecordToken<'a>>,
+    elements: &[(usize, u64)],
+) -> Result<(), AllocError>
+    ensures { OnOk result (symbols_of tokens.new.items ≡ symbols_of tokens.old.items ++ map (λ at. place at.0 at.1) elements.now) }
+{
+    for at in elements {
+        tokens.push(RecordToken::Place(at.0 as u64, at.1))?;
+    }
+    Ok(())
 }

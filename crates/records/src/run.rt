@@ -5,6 +5,7 @@ ghost use Rattle.std.specs.declared.alloc.Global.{Global as AGlobal};
 ghost use Rattle.std.specs.Io.KnownBytes.{Appends};
 ghost use Rattle.std.specs.List.{list_any};
 ghost use Rattle.shards.specs.Closing.{book_of};
+ghost use Rattle.report.specs.Doubt.{left_out_at, rests_at};
 ghost use Rattle.report.specs.Finding.{IsOfTower};
 ghost use Rattle.report.specs.Order.{IsAsked};
 ghost use Rattle.report.specs.Summary.{is_failing};
@@ -19,15 +20,15 @@ use crate::ends::{Totals, add_head, add_last, add_order};
 use crate::explained::explain_all;
 use crate::line::{Notation, push_record};
 use crate::log::{add_answer, add_placed_break, add_placed_refusal};
-use crate::register::{RegisterNames, add_register};
+use crate::register::{LentDoubt, RegisterNames, add_register};
 use crate::token::RecordToken;
 use intervals::{OpId, RegId};
 use logs::{Broken, Line, Log, Run, What};
 use phrases::name_of;
 use places::Places;
 use report::{
-    Finding, ReportFault, RunFindings, count_broken, count_failing, count_operations,
-    count_refused, culprits_in, failing_of, find_all, is_culprit, level_name, order_of,
+    Doubt, Finding, ReportFault, RunFindings, count_broken, count_failing, count_operations,
+    count_refused, culprits_in, doubts_of, failing_of, find_all, is_culprit, level_name, order_of,
 };
 use shards::Closed;
 use std::alloc::{AllocError, Global};
@@ -88,12 +89,14 @@ fn records_text<'x>(
     let each = find_all(alloc, tower, &run.closed)?;
     let failing = failing_of(alloc, &each)?;
     let culprits = culprits_in(alloc, tower, &failing)?;
+    let doubts = doubts_of(alloc, &each, &run.logs)?;
     let findings = RunFindings {
         tower,
         run,
         each: &each,
         failing: &failing,
         culprits: &culprits,
+        doubts: &doubts,
     };
     let allowed = explain_all(alloc, &findings)?;
     let places = places_of(alloc, texts, &findings)?;
@@ -157,7 +160,7 @@ fn text_of(
     requires there { IfSome form.now.order (λ id. IsSome (book_of findings.now.run.now.closed id.0)) }
     requires each { length allowed.now ≡ length findings.now.each.now }
     ensures text { IfOk result (λ text. (asked : Option (RegId × Option (List OpId))) × IsAsked findings.now.run.now.closed form.now.order asked
-        × (text.items ≡ run_lines places.now form.now.notation (names_of form.now) form.now.only_failing form.now.status findings.now.tower.now findings.now.each.now (map (λ (allowed : Vec AnAllowed AGlobal). allowed.items) allowed.now) findings.now.run.now.logs.items asked)) }
+        × (text.items ≡ run_lines places.now form.now.notation (names_of form.now) form.now.only_failing form.now.status findings.now.tower.now findings.now.each.now findings.now.doubts.now (map (λ (allowed : Vec AnAllowed AGlobal). allowed.items) allowed.now) findings.now.run.now.logs.items asked)) }
     ensures memory { IfErr result (λ fault. fault ≡ ReportFault.Memory) }
 {
     let totals = totals_of(findings);
@@ -194,6 +197,23 @@ fn at_most_u64(number: u128) -> u64
     ensures { result ≡ at_most_u64 number }
 {
     number.min(u128::from(u64::MAX)) as u64
+}
+
+/// What is in doubt of the register of this number; nothing where there is none.
+fn doubt_at(doubts: &[Doubt], number: usize) -> LentDoubt
+    ensures left_out { result.left_out.now ≡ left_out_at doubts.now number }
+    ensures rests_on { result.rests_on.now ≡ rests_at doubts.now number }
+{
+    match doubts.get(number) {
+        Some(doubt) => LentDoubt {
+            left_out: &doubt.left_out,
+            rests_on: &doubt.rests_on,
+        },
+        None => LentDoubt {
+            left_out: &[],
+            rests_on: &[],
+        },
+    }
 }
 
 /// What writes records: the memory that it takes, the notation, whether only the registers that fail have a record, and
@@ -236,7 +256,7 @@ impl RecordWriter<'_, '_> {
         allowed: &[Vec<Allowed>],
     ) -> Result<(), AllocError>
         requires each { length allowed.now ≡ length findings.now.each.now }
-        ensures { OnOk result (text.new.items ≡ text.old.items ++ lines_of self.entry.notation (registers_records self.entry.places.now findings.now.tower.now findings.now.failing.now self.entry.only_failing 0 findings.now.each.now (map (λ (allowed : Vec AnAllowed AGlobal). allowed.items) allowed.now))) }
+        ensures { OnOk result (text.new.items ≡ text.old.items ++ lines_of self.entry.notation (registers_records self.entry.places.now findings.now.tower.now findings.now.failing.now findings.now.doubts.now self.entry.only_failing 0 findings.now.each.now (map (λ (allowed : Vec AnAllowed AGlobal). allowed.items) allowed.now))) }
     {
         for number in 0..findings.tower.len() {
             self.push_one(
@@ -260,7 +280,7 @@ impl RecordWriter<'_, '_> {
         allowed: &[Allowed],
     ) -> Result<(), AllocError>
         requires few { number < 65536 }
-        ensures { OnOk result (text.new.items ≡ text.old.items ++ lines_of self.entry.notation (one_record self.entry.places.now findings.now.tower.now findings.now.failing.now self.entry.only_failing number finding.now allowed.now)) }
+        ensures { OnOk result (text.new.items ≡ text.old.items ++ lines_of self.entry.notation (one_record self.entry.places.now findings.now.tower.now findings.now.failing.now findings.now.doubts.now self.entry.only_failing number finding.now allowed.now)) }
     {
         if !self.only_failing || finding.witness.is_some() {
             self.push_register(text, findings, number, finding, allowed)
@@ -279,7 +299,7 @@ impl RecordWriter<'_, '_> {
         allowed: &[Allowed],
     ) -> Result<(), AllocError>
         requires few { number < 65536 }
-        ensures { OnOk result (text.new.items ≡ text.old.items ++ lines_of self.entry.notation (register_record self.entry.places.now findings.now.tower.now findings.now.failing.now number finding.now allowed.now)) }
+        ensures { OnOk result (text.new.items ≡ text.old.items ++ lines_of self.entry.notation (register_record self.entry.places.now findings.now.tower.now findings.now.failing.now findings.now.doubts.now number finding.now allowed.now)) }
     {
         let id = RegId(number as u32);
         let tower = findings.tower;
@@ -292,8 +312,17 @@ impl RecordWriter<'_, '_> {
             level: level_name(tower, level),
             name,
         };
+        let doubt = doubt_at(findings.doubts, number);
         let mut tokens = Vec::new(self.alloc);
-        add_register(&mut tokens, self.places, &names, finding, culprit, allowed)?;
+        add_register(
+            &mut tokens,
+            self.places,
+            &names,
+            finding,
+            culprit,
+            allowed,
+            doubt,
+        )?;
         self.push(text, &tokens)
     }
 
@@ -346,9 +375,13 @@ impl RecordWriter<'_, '_> {
     {
         let mut tokens = Vec::new(self.alloc);
         match &line.what {
-            What::Refused(code) => {
-                add_placed_refusal(&mut tokens, self.places, feeder as u64, line.event, code)?
-            }
+            What::Refused(left_out) => add_placed_refusal(
+                &mut tokens,
+                self.places,
+                feeder as u64,
+                line.event,
+                &left_out.code,
+            )?,
             What::Answered(register, answer) => add_answer(
                 &mut tokens,
                 self.places,

@@ -11,3 +11,5 @@ pub mod Crosses
 pub mod Batches
 -- the refusals by code come to all refusals
 pub mod Refusals
+-- what is in doubt: the elements that were left out are noted of their registers
+pub mod Doubts

@@ -35,7 +35,7 @@ one_code (Pair fault) = one_pair fault
 one_code (Register refusal) = one_refusal refusal
 
 one_line : (what : What) → sum_by (λ known. cond (is_refusal_by known what) 1 0) refusal_codes ≡ cond (is_refusal what) 1 0
-one_line (Refused code) = one_code code
+one_line (Refused left_out) = one_code left_out.code
 one_line (Answered register answer) = refl
 
 in_lines : (lines : List Line) → sum_by (λ known. count_by (is_refused_by known) lines) refusal_codes ≡ count_by is_refused_line lines

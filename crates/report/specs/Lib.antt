@@ -11,3 +11,7 @@ pub mod Counts
 pub mod Failing
 pub mod Refused
 pub mod Summary
+pub mod Doubt
+pub mod Doubted
+-- words of private clauses
+pub mod Doubting

@@ -12,8 +12,8 @@ use Rattle.phrases.specs.Names.{printed, verdict_word, place_text, register_name
 
 -- the line of a refusal or an answer: the place of its element, and the code, or the register with its verdict
 abbrev pub what_line : List Said → ℕ → ℕ → What → List ℕ
-what_line registers feeder event (Refused code) =
-    codes "refused " ++ place_text feeder event ++ codes " " ++ refused_code code ++ 10 ∷ []
+what_line registers feeder event (Refused left_out) =
+    codes "refused " ++ place_text feeder event ++ codes " " ++ refused_code left_out.code ++ 10 ∷ []
 what_line registers feeder event (Answered register answer) =
     codes "answer " ++ place_text feeder event ++ codes " " ++ printed (register_name registers register) ++ codes " " ++ verdict_word answer.holds ++ codes " " ++ decimal answer.operations ++ 10 ∷ []
 

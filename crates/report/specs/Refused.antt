@@ -13,7 +13,7 @@ use Rattle.texts.specs.Codes.{refusal_codes}
 
 -- what is noted of an element is a refusal
 abbrev pub is_refusal : What → Bool
-is_refusal (Refused code) = true
+is_refusal (Refused left_out) = true
 is_refusal (Answered register answer) = false
 
 -- a log line is of a refusal
@@ -22,7 +22,7 @@ is_refused_line line = is_refusal line.what
 
 -- what is noted of an element is a refusal by this code
 abbrev pub is_refusal_by : List ℕ → What → Bool
-is_refusal_by code (Refused found) = bytes_eq (refused_code found) code
+is_refusal_by code (Refused left_out) = bytes_eq (refused_code left_out.code) code
 is_refusal_by code (Answered register answer) = false
 
 -- a log line is of a refusal by this code

@@ -14,6 +14,9 @@ use Rattle.phrases.specs.Names.{printed, register_name, kind_word}
 use Rattle.report.specs.Finding.{AreFindings, fails_of}
 use Rattle.report.specs.Culprit.{culprits_of}
 use Rattle.report.specs.Notes.{broken_line}
+use Rattle.report.specs.declared.doubt.Doubt.{Doubt}
+use Rattle.report.specs.Doubt.{AreDoubts}
+use Rattle.report.specs.Doubted.{doubted_text}
 use Rattle.report.specs.Failing.{blamed_line, ids_of_tower, lines_text, more_text, other_line, others_of}
 use Rattle.report.specs.Refused.{refused, refused_text}
 
@@ -147,14 +150,17 @@ abbrev pub broken_text : List Log → List ℕ
 broken_text logs =
     flat_map (break_line logs) (take 10 (broken_of logs)) ++ more_text (codes "and ") 10 (length (broken_of logs)) (codes " more" ++ 10 ∷ [])
 
--- the text of a summary: the first line, the registers that fail, those that hold, the refusals by code, and what broke
-abbrev pub summary_text : TowerModel → List Finding → List Log → List ℕ
-summary_text tower findings logs =
-    first_line tower findings (length (culprits_of tower findings)) logs ++ failing_text tower findings ++ holding_text tower findings ++ refused_text logs ++ broken_text logs
+-- the text of a summary: the first line, the registers that fail, those in doubt, those that hold, the refusals by code,
+-- and what broke
+abbrev pub summary_text : TowerModel → List Finding → List Doubt → List Log → List ℕ
+summary_text tower findings doubts logs =
+    first_line tower findings (length (culprits_of tower findings)) logs ++ failing_text tower findings ++ doubted_text tower doubts ++ holding_text tower findings ++ refused_text logs ++ broken_text logs
 
 -- the text is the summary of what is found of each register, and of these logs
 pub record IsSummary (tower : TowerModel) (closed : List ClosedShard) (logs : List Log) (text : List ℕ) : Type 0 where
   pub findings : List Finding
   pub many : length findings ≡ length tower.registers
   pub found : AreFindings closed 0 findings
-  pub text_is : text ≡ summary_text tower findings logs
+  pub doubts : List Doubt
+  pub doubted : AreDoubts findings logs doubts
+  pub text_is : text ≡ summary_text tower findings doubts logs

@@ -3,10 +3,13 @@
 ghost use Rattle.std.specs.Prelude.{◌≡◌, ◌++◌, Err, IfOk, OnOk, List, ℕ, count_by, flat_map, length, string_bytes};
 ghost use Rattle.std.specs.Io.KnownBytes.{Appends};
 ghost use Rattle.report.specs.Culprit.{culprits_of};
+ghost use Rattle.report.specs.Doubted.{doubted_text};
 ghost use Rattle.report.specs.Finding.{IsOfTower};
 ghost use Rattle.report.specs.Summary.{IsSummary, amiss_text, culprit_count_text, breaks_text, break_line, breaks_at, broken_of, broken_text, counted, failed_text, failing_lines, failing_text, first_line, held_text, holding_text, holds_as, idle_count_text, idle_of, idle_text, is_broken, is_failing, is_idle, kind_text, kinds_text, name_text, names_text, operations, over_text, refusals_text, same_kind, summary_text};
 
 use crate::culprit::culprits_in;
+use crate::doubt::doubts_of;
+use crate::doubted::push_doubted;
 use crate::failing::{at_most, others_in, push_blamed, push_more, push_others};
 use crate::fault::ReportFault;
 use crate::finding::{Finding, failing_of, find_all};
@@ -24,7 +27,7 @@ use tower_file::Tower;
 /// How many registers without operations, and how many broken traces, are named.
 const NAMED: usize = 10;
 
-/// Writes the summary of a run over the registers of a tower, in one write and one flush: at most 56 lines, however
+/// Writes the summary of a run over the registers of a tower, in one write and one flush: at most 57 lines, however
 /// many registers fail and traces break. The run has to be of the tower.
 pub fn summary<'x, W: Write>(
     alloc: Global,
@@ -47,12 +50,14 @@ fn summary_text<'x>(alloc: Global, tower: &'x Tower, run: &Run<'x>) -> Result<St
     let each = find_all(alloc, tower, &run.closed)?;
     let failing = failing_of(alloc, &each)?;
     let culprits = culprits_in(alloc, tower, &failing)?;
+    let doubts = doubts_of(alloc, &each, &run.logs)?;
     let findings = RunFindings {
         tower,
         run,
         each: &each,
         failing: &failing,
         culprits: &culprits,
+        doubts: &doubts,
     };
     let mut text = String::new(alloc);
     push_registers(&mut text, alloc, &findings)?;
@@ -61,16 +66,17 @@ fn summary_text<'x>(alloc: Global, tower: &'x Tower, run: &Run<'x>) -> Result<St
     Ok(text)
 }
 
-/// The first line, and the lines of the registers that fail and that hold.
+/// The first line, and the lines of the registers that fail, that are in doubt, and that hold.
 fn push_registers(
     text: &mut String,
     alloc: Global,
     findings: &RunFindings,
 ) -> Result<(), AllocError>
-    ensures { OnOk result (string_bytes text.new ≡ string_bytes text.old ++ first_line findings.now.tower.now findings.now.each.now (length (culprits_of findings.now.tower.now findings.now.each.now)) findings.now.run.now.logs.items ++ failing_text findings.now.tower.now findings.now.each.now ++ holding_text findings.now.tower.now findings.now.each.now) }
+    ensures { OnOk result (string_bytes text.new ≡ string_bytes text.old ++ first_line findings.now.tower.now findings.now.each.now (length (culprits_of findings.now.tower.now findings.now.each.now)) findings.now.run.now.logs.items ++ failing_text findings.now.tower.now findings.now.each.now ++ doubted_text findings.now.tower.now findings.now.doubts.now ++ holding_text findings.now.tower.now findings.now.each.now) }
 {
     push_first(text, findings)?;
     push_failing(text, alloc, findings)?;
+    push_doubted(text, alloc, findings.tower, findings.doubts)?;
     push_holding(text, alloc, findings.tower, findings.each)
 }
 

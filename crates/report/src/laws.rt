@@ -1,13 +1,17 @@
 //! Laws of this crate's words, which its users may rely on.
 
-ghost use Rattle.std.specs.Prelude.{◌≡◌, ℕ, List, length, sum_by};
+ghost use Rattle.std.specs.Prelude.{◌≡◌, ◌↔◌, IsTrue, ℕ, List, Some, length, sum_by};
 ghost use Rattle.tower_file.specs.Contents.{TowerModel};
 ghost use Rattle.jepsen_form.specs.declared.item.MomentField.{MomentField};
+ghost use Rattle.pairing.specs.declared.about.About.{About};
+ghost use Rattle.register_book.specs.declared.fault.Witness.{Witness};
+ghost use Rattle.register_book.specs.Fault.{ops_in_roles, roles_of};
 ghost use Rattle.shards.specs.Closing.{ClosedShard};
 ghost use Rattle.logs.specs.declared.log.Log.{Log};
 ghost use Rattle.logs.specs.Run.{IsRun};
 ghost use Rattle.report.specs.declared.finding.Finding.{Finding};
 ghost use Rattle.report.specs.Finding.{AreFindings, IsOfTower};
+ghost use Rattle.report.specs.Doubt.{RestsOn, rests_on};
 ghost use Rattle.report.specs.Culprit.{AreCulprits, culprits_of};
 ghost use Rattle.report.specs.Refused.{refused, refused_by};
 ghost use Rattle.texts.specs.Codes.{refusal_codes};
@@ -27,4 +31,11 @@ pub fn the_culprits_are_those()
 /// Each refusal is counted under one code: the numbers by code come to the number of all.
 pub fn refusals_by_code_are_all()
     ensures { (logs : List Log) → sum_by (λ code. refused_by code logs) refusal_codes ≡ refused logs }
+{}
+
+/// The failure of a register rests on an element of it that was left out exactly where the element claims a kind, would
+/// have written a value that cannot be read, answers or edits an operation that shows the failure, or would have
+/// written the value that such an operation read or wrote.
+pub fn what_a_failure_rests_on()
+    ensures { (witness : Witness) (about : About) → IsTrue (rests_on (Some witness) about) ↔ RestsOn (ops_in_roles (roles_of witness)) about }
 {}

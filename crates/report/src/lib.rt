@@ -2,9 +2,10 @@
 //! to blame, the answers and refusals of each trace, and an order where one is asked for.
 //!
 //!     report(rt, alloc, &tower, &run, None, &mut out)?
-//!     summary(alloc, &tower, &run, &mut out)?        // what the report says, in at most 56 lines
+//!     summary(alloc, &tower, &run, &mut out)?        // what the report says, in at most 57 lines
 //!     culprits(alloc, &tower, &run.closed)?          // the registers that fail while their parts hold
 //!     let each = find_all(alloc, &tower, &run.closed)?   // what is found of each register
+//!     doubts_of(alloc, &each, &run.logs)?            // what was left out of each, and what its failure rests on
 //!     standing_counts(alloc, &tower, &run.closed)?   // how many operations stand in all, and the least in one
 //!     tower_text(alloc, &tower)?                     // a line for each register of a tower
 //!
@@ -17,6 +18,8 @@ mod batch;
 mod brief;
 mod counts;
 mod culprit;
+mod doubt;
+mod doubted;
 mod failing;
 mod fault;
 mod finding;
@@ -32,6 +35,8 @@ mod text;
 pub use brief::{count_broken, count_failing, count_operations, summary};
 pub use counts::{Counts, standing_counts};
 pub use culprit::{culprits, culprits_in, is_culprit};
+pub use doubt::{Doubt, doubts_of, rests_on};
+pub use doubted::is_doubted;
 pub use fault::ReportFault;
 pub use finding::{Finding, failing_of, find_all};
 pub use findings::RunFindings;

@@ -31,9 +31,9 @@ fn push_line(text: &mut String, tower: &Tower, feeder: usize, line: &Line) -> Re
     ensures { OnOk result (string_bytes text.new ≡ string_bytes text.old ++ note_line tower.now.registers feeder line.now) }
 {
     match &line.what {
-        What::Refused(code) => {
+        What::Refused(left_out) => {
             write!(text, "refused {feeder}:{} ", line.event)?;
-            text.push_str(code.code())?;
+            text.push_str(left_out.code.code())?;
             text.push_str("\n")
         }
         What::Answered(register, answer) => {

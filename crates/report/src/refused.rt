@@ -122,7 +122,7 @@ fn is_refused_by(line: &Line, code: &str) -> bool
     ensures { result ≡ is_refused_by code.now line.now }
 {
     match &line.what {
-        What::Refused(found) => found.code() == code,
+        What::Refused(left_out) => left_out.code.code() == code,
         What::Answered(..) => false,
     }
 }

@@ -7,7 +7,7 @@ use Rattle.std.proofs.lemmas.List.{append-nil, append_assoc}
 use Rattle.std.proofs.lemmas.List.Elements.{All-append, All-contains_itself, All-cons, All-nil, Contains-append_cases, Contains-append_left, Contains-append_right, filter-append}
 use Rattle.logs.specs.declared.notice.Notice.{Notice}
 use Rattle.logs.specs.declared.notice.Notice.TheVariants.{Refused, Broke, Ended}
-use Rattle.logs.specs.declared.log.Code.{Code}
+use Rattle.logs.specs.declared.log.LeftOut.{LeftOut}
 use Rattle.logs.specs.declared.log.Broken.{Broken}
 use Rattle.watch.specs.declared.settling.Advance.{Advance}
 use Rattle.watch.specs.declared.settling.Advance.TheVariants.{Took}
@@ -110,7 +110,7 @@ holds_and_fails false holding failing = absurd cc
 
 -- a refusal, a break and an end are no failure
 pub no_failure : (notice : Notice)
-    → ((feeder : ℕ) × (place : ℕ) × (code : Code) × (notice ≡ Refused feeder place code)) ⊎ (((feeder : ℕ) × (broken : Broken) × (notice ≡ Broke feeder broken)) ⊎ ((feeder : ℕ) × (elements : ℕ) × (notice ≡ Ended feeder elements)))
+    → ((feeder : ℕ) × (place : ℕ) × (left_out : LeftOut) × (notice ≡ Refused feeder place left_out)) ⊎ (((feeder : ℕ) × (broken : Broken) × (notice ≡ Broke feeder broken)) ⊎ ((feeder : ℕ) × (elements : ℕ) × (notice ≡ Ended feeder elements)))
     → says_fails notice ≡ true → ⊥
 no_failure notice (inl is) fails = let no : says_fails (Refused is.0 is.1 is.2) ≡ true = subst (λ (n : Notice). says_fails n ≡ true) is.3 fails in absurd cc
 no_failure notice (inr (inl is)) fails = let no : says_fails (Broke is.0 is.1) ≡ true = subst (λ (n : Notice). says_fails n ≡ true) is.2 fails in absurd cc

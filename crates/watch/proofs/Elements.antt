@@ -7,7 +7,7 @@ use Rattle.intervals.specs.declared.edit.Edit.{Edit as AnEdit}
 use Rattle.intervals.specs.Terms.{ClaimModel, unedited}
 use Rattle.intervals.specs.Kind.{Holds}
 use Rattle.intervals.specs.Refusal.{standing}
-use Rattle.jepsen_form.specs.declared.fault.FormFault.{FormFault}
+use Rattle.jepsen_form.specs.declared.gist.RefusedForm.{RefusedForm}
 use Rattle.jepsen_form.specs.declared.item.Item.{Item}
 use Rattle.logs.specs.Steps.{StepResult, edits_among, placed, step_after, steps_after, steps_of}
 use Rattle.watch.specs.Coming.{ComeInOrder, LeaveReadValues}
@@ -17,16 +17,16 @@ use Rattle.watch.proofs.Failing.{fails_again_known, fails_again_unread}
 use Rattle.watch.proofs.Unfailed.{leave_all, withdraw_nothing}
 use Rattle.watch.proofs.Plain.{plain_in_order, come_rest}
 
-lists_in_order : (claim : ClaimModel) (feeder : ℕ) (register : RegId) (items : List (Result Item FormFault)) → IsPlainTrace items → ComeInOrder (unedited claim) (edit_lists register (steps_of feeder items))
+lists_in_order : (claim : ClaimModel) (feeder : ℕ) (register : RegId) (items : List (Result Item RefusedForm)) → IsPlainTrace items → ComeInOrder (unedited claim) (edit_lists register (steps_of feeder items))
 lists_in_order claim feeder register items trace =
     subst (ComeInOrder (unedited claim)) (sym (edits_are feeder register items)) (plain_in_order feeder register claim (placed items) (plain_placed items trace))
 
-steps_append : (feeder : ℕ) (before items more : List (Result Item FormFault)) → steps_after feeder before (items ++ more) ≡ steps_after feeder before items ++ steps_after feeder (before ++ items) more
-steps_append feeder before [] more = ap (λ (b : List (Result Item FormFault)). steps_after feeder b more) (sym (append-nil before))
+steps_append : (feeder : ℕ) (before items more : List (Result Item RefusedForm)) → steps_after feeder before (items ++ more) ≡ steps_after feeder before items ++ steps_after feeder (before ++ items) more
+steps_append feeder before [] more = ap (λ (b : List (Result Item RefusedForm)). steps_after feeder b more) (sym (append-nil before))
 steps_append feeder before (one ∷ items) more =
     ap (λ (rest : List StepResult). step_after feeder before one ∷ rest)
     (steps_append feeder (before ++ one ∷ []) items more
-    ∙ ap (λ (b : List (Result Item FormFault)). steps_after feeder (before ++ one ∷ []) items ++ steps_after feeder b more) (append_assoc before (one ∷ []) items))
+    ∙ ap (λ (b : List (Result Item RefusedForm)). steps_after feeder (before ++ one ∷ []) items ++ steps_after feeder b more) (append_assoc before (one ∷ []) items))
 
 among_append : (register : RegId) (steps more : List StepResult) → edit_lists register (steps ++ more) ≡ edit_lists register steps ++ edit_lists register more
 among_append register [] more = refl
@@ -34,11 +34,11 @@ among_append register (step ∷ steps) more =
     ap (λ (es : List AnEdit). edit_list register step ++ es) (among_append register steps more)
     ∙ sym (append_assoc (edit_list register step) (edit_lists register steps) (edit_lists register more))
 
-all_later : (items more : List (Result Item FormFault)) → All EditsNothing (items ++ more) → All EditsNothing more
+all_later : (items more : List (Result Item RefusedForm)) → All EditsNothing (items ++ more) → All EditsNothing more
 all_later [] more all = all
 all_later (one ∷ items) more all = all_later items more (All-tail EditsNothing one (items ++ more) all)
 
-module _ (claim : ClaimModel) (feeder : ℕ) (register : RegId) (items more : List (Result Item FormFault)) (trace : IsPlainTrace (items ++ more)) where
+module _ (claim : ClaimModel) (feeder : ℕ) (register : RegId) (items more : List (Result Item RefusedForm)) (trace : IsPlainTrace (items ++ more)) where
   abbrev early : List AnEdit
   early = edit_lists register (steps_of feeder items)
 
@@ -65,11 +65,11 @@ module _ (claim : ClaimModel) (feeder : ℕ) (register : RegId) (items more : Li
   lists_fail_unfailed n = lists_fail_unread (leave_all (standing (unedited claim) early) late (withdraw_nothing feeder register items more (all_later items more trace.unedited) n))
 
 -- the same of the edits of the register of a number
-pub elements_in_order : (claim : ClaimModel) (feeder register : ℕ) (items : List (Result Item FormFault)) → IsPlainTrace items → ComeInOrder (unedited claim) (edits_among register (steps_of feeder items))
+pub elements_in_order : (claim : ClaimModel) (feeder register : ℕ) (items : List (Result Item RefusedForm)) → IsPlainTrace items → ComeInOrder (unedited claim) (edits_among register (steps_of feeder items))
 elements_in_order claim feeder register items trace =
     subst (ComeInOrder (unedited claim)) (sym (among_lists register (steps_of feeder items))) (lists_in_order claim feeder (record { 0 = register }) items trace)
 
-module _ (claim : ClaimModel) (feeder register : ℕ) (items more : List (Result Item FormFault)) (trace : IsPlainTrace (items ++ more)) where
+module _ (claim : ClaimModel) (feeder register : ℕ) (items more : List (Result Item RefusedForm)) (trace : IsPlainTrace (items ++ more)) where
   abbrev FailAfter : List StepResult → Type 0
   FailAfter taken = ¬ Holds (standing (unedited claim) (edits_among register taken))
 

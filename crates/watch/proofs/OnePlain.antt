@@ -16,7 +16,7 @@ use Rattle.intervals.specs.Refusal.{after_edit, standing}
 use Rattle.intervals.specs.Terms.{ClaimModel, RegisterState, unedited}
 use Rattle.intervals.proofs.Standing.{kind_alone_changes, standing_apart}
 use Rattle.register_book.specs.declared.reply.Reply.{Reply}
-use Rattle.jepsen_form.specs.declared.fault.FormFault.{FormFault}
+use Rattle.jepsen_form.specs.declared.gist.RefusedForm.{RefusedForm}
 use Rattle.jepsen_form.specs.declared.item.Item.{Item}
 use Rattle.jepsen_form.specs.declared.item.MomentField.{MomentField}
 use Rattle.tower_file.specs.Contents.{TowerModel}
@@ -72,7 +72,7 @@ entered_reads n register number on edit reply doings false false is within sub r
 
 doings_read : (n register : ℕ) (doings : List Doing) → filter_map (read_of register) (map plain_numbered (entered_in n 0 (register % n) doings)) ≡ map plain_edit (edits_among register (map taken_of doings))
 doings_read n register [] = refl
-doings_read n register (refused code ∷ doings) = doings_read n register doings
+doings_read n register (refused left_out ∷ doings) = doings_read n register doings
 doings_read n register (nothing ∷ doings) = doings_read n register doings
 doings_read n register (entered on edit number reply ∷ doings) =
     entered_reads n register number on edit reply doings (on.0 == register) (on.0 % n == register % n) refl refl (same_shard on.0 register n) (doings_read n register doings)
@@ -223,7 +223,7 @@ module _ (present : Stands) (fronts : FrontsAreLegal) (alike : AreAlike) (tower 
       (changes_final plan register journal (changes_of closed at) (run.finished.changes at (omega (arith, many, some)))
       (never_heals present fronts alike plan at register claim known journal edits settled.of_shard.legal same order may)).0
     where
-      by_either : (items : List (Result Item FormFault)) → IsPlainTrace items → AreItemsOfTrace tower chosen trace log.broken items → (claim.known ≡ true) ⊎ All (HasNoFail tower chosen log.broken) (trace ∷ []) → MayGoOn claim (edits_among register (steps_of 0 items))
+      by_either : (items : List (Result Item RefusedForm)) → IsPlainTrace items → AreItemsOfTrace tower chosen trace log.broken items → (claim.known ≡ true) ⊎ All (HasNoFail tower chosen log.broken) (trace ∷ []) → MayGoOn claim (edits_among register (steps_of 0 items))
       by_either items plain are (inl is) = may_known present fronts alike (plan_of_run tower shards (trace ∷ [])) (register % shards) register claim known is (edits_among register (steps_of 0 items))
       by_either items plain are (inr none) =
           may_unread present fronts alike (plan_of_run tower shards (trace ∷ [])) (register % shards) register claim known (edits_among register (steps_of 0 items))

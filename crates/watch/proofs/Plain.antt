@@ -33,9 +33,8 @@ use Rattle.pairing.specs.Invocation.{invocation_by, answers, is_on, same_act}
 use Rattle.pairing.specs.Accepted.{Placed, is_event_of, invocation, unanswered_of, event_fault, fault_of, accepted}
 use Rattle.pairing.specs.Step.{id_of, act_of, value_read, append_of, amendment_of, invoke_step, ok_step, event_step, unless, step_of}
 use Rattle.watch.specs.Coming.{ComesLast, ComeInOrder, IsLatest}
-use Rattle.logs.specs.Steps.{by_pairing}
 use Rattle.watch.specs.Trace.{IsNoEdit, item_moment, IsNotAfter}
-use Rattle.watch.proofs.Placing.{edit_list, GoesBefore, IsPlain, edits_after, edits_of_items}
+use Rattle.watch.proofs.Placing.{edit_list, edit_answered, GoesBefore, IsPlain, edits_after, edits_of_items}
 use Rattle.watch.proofs.Members.{here, in_none, kept_present}
 use Rattle.watch.proofs.Waits.{unanswered_push, refused_push, taken_push, writes, IsBehind, IsOpen, Stands, later, fewer_wait, fewer_stand, invoked, appended, ended}
 
@@ -196,13 +195,13 @@ module _ (feeder : ℕ) (register : RegId) (before items : List Placed) (place :
 
     ok_by : (said : Invocation) → waits event.process ≡ Some said → (t : Bool) → answers said event ≡ t
         → (is_some (if t then None else Some AnswerMismatch) ≡ true → Stands feeder others items held.ops) → (is_some (if t then None else Some AnswerMismatch) ≡ false → Waited None)
-        → Goes feeder held others items (edit_list register (by_pairing (unless (if t then None else Some AnswerMismatch) (ok_step feeder said event event.moment))))
+        → Goes feeder held others items (edit_answered register (unless (if t then None else Some AnswerMismatch) (ok_step feeder said event event.moment)))
     ok_by said u true e r w = ok_goes said u (w refl) event.moment refl e
     ok_by said u false e r w = (tt, r refl)
 
     event_goes : (u : Option Invocation) (stage : Stage) → waits event.process ≡ u → (is_some (event_fault u event stage) ≡ true → Stands feeder others items held.ops)
         → (is_some (event_fault u event stage) ≡ false → Waited (invocation_by place event stage event.register))
-        → Goes feeder held others items (edit_list register (by_pairing (unless (event_fault u event stage) (event_step feeder u place event stage))))
+        → Goes feeder held others items (edit_answered register (unless (event_fault u event stage) (event_step feeder u place event stage)))
     event_goes None stages.Invoke u r w = invoke_goes event.register event.moment refl (w refl)
     event_goes None stages.Ok u r w = (tt, r refl)
     event_goes None stages.Fail u r w = (tt, r refl)
@@ -212,7 +211,7 @@ module _ (feeder : ℕ) (register : RegId) (before items : List Placed) (place :
     event_goes (Some said) stages.Fail u r w = fail_goes said u (w refl)
     event_goes (Some said) stages.Info u r w = (tt, answered (w refl))
 
-    pub goes_on : Goes feeder held others items (edit_list register (by_pairing (step_of feeder (accepted before) place (Event event))))
+    pub goes_on : Goes feeder held others items (edit_answered register (step_of feeder (accepted before) place (Event event)))
     goes_on = event_goes (waits event.process) event.answer refl refused taken
 
 -- an item that is no event, and is accepted, leaves what waits
@@ -230,7 +229,7 @@ module _ (feeder : ℕ) (register : RegId) where
   goes : (before items : List Placed) (place : ℕ) (item : Item) (held : RegisterState) → IsNoEdit item
       → Stands feeder (unanswered_of (accepted before)) (record { place = place; item = item } ∷ items) held.ops
       → ((next : Placed) → Contains items next → GoesBefore (record { place = place; item = item }) next)
-      → Goes feeder held (unanswered_of (accepted (before ++ record { place = place; item = item } ∷ []))) items (edit_list register (by_pairing (step_of feeder (accepted before) place item)))
+      → Goes feeder held (unanswered_of (accepted (before ++ record { place = place; item = item } ∷ []))) items (edit_answered register (step_of feeder (accepted before) place item))
   goes before items place (Event event) held plain s order = goes_on feeder register before items place event held s order
   goes before items place (Amend of change) held plain s order = absurd plain
   goes before items place (Withdraw of) held plain s order = absurd plain
@@ -251,7 +250,7 @@ module _ (feeder : ℕ) (register : RegId) where
   come_after before [] held plain order s = tt
   come_after before (one ∷ items) held plain order s =
       let (first, present) = goes before items one.place one.item held (All-head (λ one. IsNoEdit one.item) one items plain) s (λ next k. All-contains (GoesBefore one) items next (λ i d lt. order zero (suc i) d (omega arith) (omega arith)) k) in
-      let mine : List AnEdit = edit_list register (by_pairing (step_of feeder (accepted before) one.place one.item)) in
+      let mine : List AnEdit = edit_answered register (step_of feeder (accepted before) one.place one.item) in
       come_append held mine (edits_after feeder register (before ++ one ∷ []) items) first
       (come_after (before ++ one ∷ []) items (standing held mine) (All-tail (λ one. IsNoEdit one.item) one items plain)
       (λ i j d lt lt'. order (suc i) (suc j) d (omega arith) (omega arith)) present)

@@ -18,7 +18,7 @@ use Rattle.watch.proofs.ToldAll.{told_all}
 -- the change that a notice tells
 abbrev pub change_said : Notice → Option VerdictChange
 change_said (Changed feeder place change) = Some change
-change_said (Refused feeder place code) = None
+change_said (Refused feeder place left_out) = None
 change_said (Broke feeder broken) = None
 change_said (Ended feeder elements) = None
 
@@ -33,21 +33,21 @@ are_changes register (Changed feeder place change ∷ notices) = go (change.regi
     go : (b : Bool) → AreChanges (notices_of register notices) → AreChanges (cond b (Changed feeder place change ∷ notices_of register notices) (notices_of register notices))
     go true rest = (refl, rest)
     go false rest = rest
-are_changes register (Refused feeder place code ∷ notices) = are_changes register notices
+are_changes register (Refused feeder place left_out ∷ notices) = are_changes register notices
 are_changes register (Broke feeder broken ∷ notices) = are_changes register notices
 are_changes register (Ended feeder elements ∷ notices) = are_changes register notices
 
 pub less_said : (all left : List Notice) → AreChanges all → LessPairs says_fails all left → LessPairs change_fails (filter_map change_said all) (filter_map change_said left)
 less_said _ _ are nothing = nothing
 less_said _ _ are (kept (Changed feeder place change) less) = kept change (less_said _ _ are.1 less)
-less_said _ _ are (kept (Refused feeder place code) less) = less_said _ _ are.1 less
+less_said _ _ are (kept (Refused feeder place left_out) less) = less_said _ _ are.1 less
 less_said _ _ are (kept (Broke feeder broken) less) = less_said _ _ are.1 less
 less_said _ _ are (kept (Ended feeder elements) less) = less_said _ _ are.1 less
 less_said _ _ are (healed (Changed feeder place change) (Changed other later next) fail hold less) = healed change next fail hold (less_said _ _ are.1.1 less)
-less_said _ _ are (healed (Changed feeder place change) (Refused other later code) fail hold less) = absurd (let is = are.1.0 in cc)
+less_said _ _ are (healed (Changed feeder place change) (Refused other later left_out) fail hold less) = absurd (let is = are.1.0 in cc)
 less_said _ _ are (healed (Changed feeder place change) (Broke other broken) fail hold less) = absurd (let is = are.1.0 in cc)
 less_said _ _ are (healed (Changed feeder place change) (Ended other elements) fail hold less) = absurd (let is = are.1.0 in cc)
-less_said _ _ are (healed (Refused feeder place code) next fail hold less) = absurd (cc)
+less_said _ _ are (healed (Refused feeder place left_out) next fail hold less) = absurd (cc)
 less_said _ _ are (healed (Broke feeder broken) next fail hold less) = absurd (cc)
 less_said _ _ are (healed (Ended feeder elements) next fail hold less) = absurd (cc)
 
@@ -68,7 +68,7 @@ pub on_said : (n register : ℕ) (notices : List Notice) → changes_on register
 on_said n register [] = refl
 on_said n register (Changed feeder place change ∷ notices) =
     on_one n register feeder place change notices (change.register.0 == register) (change.register.0 % n == register % n) refl refl (same_shard change.register.0 register n) (on_said n register notices)
-on_said n register (Refused feeder place code ∷ notices) = on_said n register notices
+on_said n register (Refused feeder place left_out ∷ notices) = on_said n register notices
 on_said n register (Broke feeder broken ∷ notices) = on_said n register notices
 on_said n register (Ended feeder elements ∷ notices) = on_said n register notices
 

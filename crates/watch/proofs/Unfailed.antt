@@ -1,5 +1,5 @@
 -- Without a `:fail` nothing is withdrawn, so the values that reads returned are left.
-use Rattle.std.proofs.Common.{◌≢◌, ◌==◌, ℕ, Bool, true, false, List, [], ◌∷◌, ◌++◌, length, Option, Some, None, Ok, Err, refl}
+use Rattle.std.proofs.Common.{◌≢◌, ◌==◌, ℕ, Bool, true, false, List, [], ◌∷◌, ◌++◌, length, Option, Some, None, Ok, Err, refl, subst, sym}
 use Rattle.std.specs.Prelude.{All, Result, if◌then◌else◌}
 use Rattle.std.specs.List.{AllByRecursion}
 use Rattle.std.proofs.lemmas.List.Elements.{All-head, All-tail}
@@ -10,7 +10,7 @@ use Rattle.intervals.specs.declared.edit.Edit.{Edit as AnEdit}
 use Rattle.intervals.specs.declared.edit.Edit.TheVariants as edits
 use Rattle.intervals.specs.Refusal.{after_edit}
 use Rattle.intervals.specs.Terms.{RegisterState}
-use Rattle.jepsen_form.specs.declared.fault.FormFault.{FormFault}
+use Rattle.jepsen_form.specs.declared.gist.RefusedForm.{RefusedForm}
 use Rattle.jepsen_form.specs.declared.item.Event.{Event as AnEvent}
 use Rattle.jepsen_form.specs.declared.item.Item.{Item}
 use Rattle.jepsen_form.specs.declared.item.Item.TheVariants.{Event, Amend, Withdraw, Claim, Ask, Skipped}
@@ -20,12 +20,13 @@ use Rattle.pairing.specs.declared.fault.PairFault.{PairFault}
 use Rattle.pairing.specs.declared.invocation.Invocation.{Invocation}
 use Rattle.pairing.specs.declared.step.Step.{Step}
 use Rattle.pairing.specs.declared.step.Step.TheVariants as steps
+use Rattle.pairing.specs.About.{gist_of_item}
 use Rattle.pairing.specs.Accepted.{unanswered_of, event_fault, accepted}
-use Rattle.pairing.specs.Step.{invoke_step, ok_step, event_step, unless}
-use Rattle.logs.specs.Steps.{by_pairing, placed, step_after, steps_after}
+use Rattle.pairing.specs.Step.{invoke_step, ok_step, event_step, step_of, unless}
+use Rattle.logs.specs.Steps.{about_after, placed, step_after, steps_after}
 use Rattle.watch.specs.Coming.{LeavesReadValues, LeaveReadValues}
 use Rattle.watch.specs.Trace.{EditsNothing, IsNoFail}
-use Rattle.watch.proofs.Placing.{edit_list, edit_lists}
+use Rattle.watch.proofs.Placing.{edit_answered, edit_list, edit_lists, list_answered}
 
 abbrev pub WithdrawsNothing : AnEdit → Type 0
 WithdrawsNothing (edits.Append op) = Unit {0}
@@ -53,7 +54,7 @@ StepWithdrawsNothing (Some (steps.Edit on edit)) = WithdrawsNothing edit
 StepWithdrawsNothing (Some (steps.Ask on)) = Unit {0}
 
 module _ (feeder : ℕ) (register : RegId) where
-  on_step : (fault : Option PairFault) (step : Option Step) → StepWithdrawsNothing step → AllByRecursion WithdrawsNothing (edit_list register (by_pairing (unless fault step)))
+  on_step : (fault : Option PairFault) (step : Option Step) → StepWithdrawsNothing step → AllByRecursion WithdrawsNothing (edit_answered register (unless fault step))
   on_step (Some fault) step w = tt
   on_step None None w = tt
   on_step None (Some (steps.Ask on)) w = tt
@@ -79,18 +80,20 @@ module _ (feeder : ℕ) (register : RegId) where
   event_withdraws_nothing u place event stages.Fail n = absurd (n refl)
   event_withdraws_nothing u place event stages.Info n = tt
 
-  one_element : (before : List (Result Item FormFault)) (one : Result Item FormFault) → EditsNothing one → IsNoFail one → AllByRecursion WithdrawsNothing (edit_list register (step_after feeder before one))
+  one_element : (before : List (Result Item RefusedForm)) (one : Result Item RefusedForm) → EditsNothing one → IsNoFail one → AllByRecursion WithdrawsNothing (edit_list register (step_after feeder before one))
   one_element before (Err fault) plain n = tt
   one_element before (Ok (Event event)) plain n =
       let u : Option Invocation = unanswered_of (accepted (placed before)) event.process in
-      on_step (event_fault u event event.answer) (event_step feeder u (length before) event event.answer) (event_withdraws_nothing u (length before) event event.answer n)
+      let answer = step_of feeder (accepted (placed before)) (length before) (Event event) in
+      subst (AllByRecursion WithdrawsNothing) (sym (list_answered register (about_after feeder before (gist_of_item (Event event))) answer))
+      (on_step (event_fault u event event.answer) (event_step feeder u (length before) event event.answer) (event_withdraws_nothing u (length before) event event.answer n))
   one_element before (Ok (Amend of change)) plain n = absurd plain
   one_element before (Ok (Withdraw of)) plain n = absurd plain
   one_element before (Ok (Claim on kind)) plain n = absurd plain
   one_element before (Ok (Ask on)) plain n = tt
   one_element before (Ok Skipped) plain n = tt
 
-  pub withdraw_nothing : (before items : List (Result Item FormFault)) → All EditsNothing items → All IsNoFail items → AllByRecursion WithdrawsNothing (edit_lists register (steps_after feeder before items))
+  pub withdraw_nothing : (before items : List (Result Item RefusedForm)) → All EditsNothing items → All IsNoFail items → AllByRecursion WithdrawsNothing (edit_lists register (steps_after feeder before items))
   withdraw_nothing before [] plain n = tt
   withdraw_nothing before (one ∷ items) plain n =
       both (edit_list register (step_after feeder before one)) (edit_lists register (steps_after feeder (before ++ one ∷ []) items))

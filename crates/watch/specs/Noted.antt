@@ -30,14 +30,14 @@ note_of_break broken = Broke (break_code_of broken.code) broken.place
 -- the feeder that a notice names
 abbrev pub feeder_of_notice : Notice → ℕ
 feeder_of_notice (notices.Changed feeder place change) = feeder
-feeder_of_notice (notices.Refused feeder place code) = feeder
+feeder_of_notice (notices.Refused feeder place left_out) = feeder
 feeder_of_notice (notices.Broke feeder broken) = feeder
 feeder_of_notice (notices.Ended feeder elements) = feeder
 
 -- what a notice notes; none for a change. How many elements a trace had when it ended is left out: no log says it
 abbrev pub note_of_notice : Notice → Option Note
 note_of_notice (notices.Changed feeder place change) = None
-note_of_notice (notices.Refused feeder place code) = Some (Refused place (refused_code code))
+note_of_notice (notices.Refused feeder place left_out) = Some (Refused place (refused_code left_out.code))
 note_of_notice (notices.Broke feeder broken) = Some (note_of_break broken)
 note_of_notice (notices.Ended feeder elements) = Some Ended
 
@@ -47,7 +47,7 @@ note_of at notice = if feeder_of_notice notice == at then note_of_notice notice 
 
 -- what is to be noted of an element, given what its log line has: that it was refused; an answer is not told
 abbrev pub note_of_what : ℕ → What → Option Note
-note_of_what place (whats.Refused code) = Some (Refused place (refused_code code))
+note_of_what place (whats.Refused left_out) = Some (Refused place (refused_code left_out.code))
 note_of_what place (whats.Answered register answer) = None
 
 -- what is to be noted by a log line

@@ -2,7 +2,7 @@
 use Rattle.std.specs.Prelude.{◌≢◌, ◌≤◌, List, Option, None, Result, Ok, Err, All, IfSome}
 use Rattle.std.specs.List.{AllPairs}
 use Rattle.intervals.specs.declared.operation.Moment.{Moment}
-use Rattle.jepsen_form.specs.declared.fault.FormFault.{FormFault}
+use Rattle.jepsen_form.specs.declared.gist.RefusedForm.{RefusedForm}
 use Rattle.jepsen_form.specs.declared.item.Item.{Item}
 use Rattle.jepsen_form.specs.declared.item.Item.TheVariants.{Event, Amend, Withdraw, Claim, Ask, Skipped}
 use Rattle.jepsen_form.specs.declared.item.Stage.TheVariants.{Fail}
@@ -26,12 +26,12 @@ item_moment (Ask register) = None
 item_moment Skipped = None
 
 -- the element is refused by its form, or its item edits nothing (`IsNoEdit`)
-abbrev pub EditsNothing : Result Item FormFault → Type 0
+abbrev pub EditsNothing : Result Item RefusedForm → Type 0
 EditsNothing (Err fault) = Unit {0}
 EditsNothing (Ok item) = IsNoEdit item
 
 -- the moment of an element's item, or none
-abbrev pub element_moment : Result Item FormFault → Option Moment
+abbrev pub element_moment : Result Item RefusedForm → Option Moment
 element_moment (Err fault) = None
 element_moment (Ok item) = item_moment item
 
@@ -40,11 +40,11 @@ abbrev pub IsNotAfter : Moment → Option Moment → Type 0
 IsNotAfter moment other = IfSome other (λ m. moment.0 ≤ m.0)
 
 -- the second element's moment is not before the first one's, where both have one
-abbrev pub IsInOrderWith : Result Item FormFault → Result Item FormFault → Type 0
+abbrev pub IsInOrderWith : Result Item RefusedForm → Result Item RefusedForm → Type 0
 IsInOrderWith a b = IfSome (element_moment a) (λ m. IsNotAfter m (element_moment b))
 
 -- a trace whose elements edit nothing and whose moments do not fall
-pub record IsPlainTrace (items : List (Result Item FormFault)) : Type 0 where
+pub record IsPlainTrace (items : List (Result Item RefusedForm)) : Type 0 where
   pub unedited : All EditsNothing items
   pub order : AllPairs IsInOrderWith items
 
@@ -58,6 +58,6 @@ IsNoFailItem (Ask register) = Unit {0}
 IsNoFailItem Skipped = Unit {0}
 
 -- the element is refused by its form, or its item is no `:fail`
-abbrev pub IsNoFail : Result Item FormFault → Type 0
+abbrev pub IsNoFail : Result Item RefusedForm → Type 0
 IsNoFail (Err fault) = Unit {0}
 IsNoFail (Ok item) = IsNoFailItem item

@@ -12,7 +12,7 @@ ghost use Rattle.intervals.specs.Refusal.{reply_to, carried_out, standing};
 ghost use Rattle.intervals.specs.Standing.{StandApart};
 ghost use Rattle.intervals.specs.Kind.{Holds};
 ghost use Rattle.intervals.specs.Histories.{place};
-ghost use Rattle.jepsen_form.specs.declared.fault.FormFault.{FormFault};
+ghost use Rattle.jepsen_form.specs.declared.gist.RefusedForm.{RefusedForm};
 ghost use Rattle.jepsen_form.specs.declared.item.Item.{Item};
 ghost use Rattle.tower_file.specs.Contents.{TowerModel};
 ghost use Rattle.shards.specs.declared.entry.VerdictChange.{VerdictChange};
@@ -76,7 +76,7 @@ pub fn a_register_that_holds_held_before()
 
 /// The edits of a register among the steps of a plain trace come in the order of time.
 pub fn a_plain_trace_comes_in_order()
-    ensures { (claim : ClaimModel) (feeder register : ℕ) (items : List (Result Item FormFault)) → IsPlainTrace items
+    ensures { (claim : ClaimModel) (feeder register : ℕ) (items : List (Result Item RefusedForm)) → IsPlainTrace items
         → ComeInOrder (unedited claim) (edits_among register (steps_of feeder items)) }
 {}
 
@@ -84,13 +84,13 @@ pub fn a_plain_trace_comes_in_order()
 /// initial value is known, and else where no later element is a `:fail`, or at least none withdraws a write whose value
 /// a finished read returned.
 pub fn a_trace_that_fails_never_holds_again()
-    ensures known { (claim : ClaimModel) (feeder register : ℕ) (items more : List (Result Item FormFault)) → claim.known ≡ true → IsPlainTrace (items ++ more)
+    ensures known { (claim : ClaimModel) (feeder register : ℕ) (items more : List (Result Item RefusedForm)) → claim.known ≡ true → IsPlainTrace (items ++ more)
         → ¬ Holds (standing (unedited claim) (edits_among register (steps_of feeder items)))
         → ¬ Holds (standing (unedited claim) (edits_among register (steps_of feeder (items ++ more)))) }
-    ensures without_fail { (claim : ClaimModel) (feeder register : ℕ) (items more : List (Result Item FormFault)) → All IsNoFail more → IsPlainTrace (items ++ more)
+    ensures without_fail { (claim : ClaimModel) (feeder register : ℕ) (items more : List (Result Item RefusedForm)) → All IsNoFail more → IsPlainTrace (items ++ more)
         → ¬ Holds (standing (unedited claim) (edits_among register (steps_of feeder items)))
         → ¬ Holds (standing (unedited claim) (edits_among register (steps_of feeder (items ++ more)))) }
-    ensures unread { (claim : ClaimModel) (feeder register : ℕ) (items more : List (Result Item FormFault)) → IsPlainTrace (items ++ more)
+    ensures unread { (claim : ClaimModel) (feeder register : ℕ) (items more : List (Result Item RefusedForm)) → IsPlainTrace (items ++ more)
         → let held = standing (unedited claim) (edits_among register (steps_of feeder items)) in
         LeaveReadValues held (edits_among register (steps_after feeder items more)) → ¬ Holds held
         → ¬ Holds (standing (unedited claim) (edits_among register (steps_of feeder (items ++ more)))) }

@@ -101,7 +101,11 @@ fn left_after<'a, 't>(left: Left<'a, 't>, notice: &Notice, at: usize) -> Option<
     }
     match notice {
         Notice::Changed { .. } => Some(left),
-        Notice::Refused { place, code, .. } => after_refusal(left, *place, code.code()),
+        Notice::Refused {
+            place,
+            left_out,
+            ..
+        } => after_refusal(left, *place, left_out.code.code()),
         Notice::Broke { broken, .. } => after_break(left, *broken),
         Notice::Ended { .. } => after_end(left),
     }
@@ -168,8 +172,8 @@ fn next_refusal<'a, 't>(lines: &'a [Line<'t>]) -> Option<(u64, Code, &'a [Line<'
     ensures none { IsNone result → filter_map note_of_line lines.now ≡ [] }
 {
     for at in 0..lines.len() {
-        if let What::Refused(code) = lines[at].what {
-            return Some((lines[at].event, code, &lines[at + 1..]));
+        if let What::Refused(left_out) = lines[at].what {
+            return Some((lines[at].event, left_out.code, &lines[at + 1..]));
         }
     }
     None

@@ -61,10 +61,10 @@ fn push_line(text: &mut String, tower: &Tower, notice: &Notice) -> Result<(), Al
         Notice::Refused {
             feeder,
             place,
-            code,
+            left_out,
         } => {
             write!(text, "refused {feeder}:{place} ")?;
-            text.push_str(code.code())?;
+            text.push_str(left_out.code.code())?;
             text.push_str("\n")
         }
         Notice::Broke { feeder, broken } => {

@@ -1,4 +1,4 @@
-use Rattle.std.proofs.Common.{◌≤◌, take, length, sym, subst, arith, List, ℕ}
+use Rattle.std.proofs.Common.{◌≤◌, take, sym, subst, arith, List, ℕ}
 use Rattle.feeders.specs.Source.{AreBytesOf}
 use Rattle.feeders.proofs.Sourcing.{read_after_used}
 use Rattle.feeders.proofs.whole.read_after.Goals as goal

@@ -1,11 +1,10 @@
-use Rattle.std.proofs.Common.{◌≡◌, ℕ, List, Result, sym, ap, subst, ◌∙◌}
+use Rattle.std.proofs.Common.{◌≡◌, ℕ, List, sym, ap, subst, ◌∙◌}
 use Rattle.edn_reader.specs.Flat.{BeginsWithElement}
 use Rattle.edn_reader.specs.Lent.{piece_of}
-use Rattle.jepsen_form.specs.declared.item.Item.{Item}
-use Rattle.jepsen_form.specs.declared.fault.FormFault.{FormFault}
 use Rattle.jepsen_form.specs.Fields.{Fields, fields_of, IsUnderValue}
-use Rattle.jepsen_form.specs.Item.{item_of, IsItem, of_map}
-use Rattle.jepsen_form.proofs.Items.{under_value_of_pairs}
+use Rattle.jepsen_form.specs.Form.{seen_all}
+use Rattle.jepsen_form.specs.Item.{gist_of, item_of, with_gist, IsItem, of_map}
+use Rattle.jepsen_form.proofs.Items.{inner_of_pairs, under_value_of_pairs}
 use Rattle.jepsen_form.proofs.Loops.{noted_next, noted_all}
 use Rattle.jepsen_form.proofs.read.read_first.Goals as goal
 
@@ -34,8 +33,11 @@ returns-in-End-clause-item c =
     let piece = piece_of c.in-End.element in
     let has = (c.in-End.ensures.part pairs so_far.read).1 in
     let said = under_value_of_pairs c.members_of_vector.ensures.some c.pairs_of_map.ensures.elements c.pairs_of_map.ensures.values piece pairs has in
+    let inner = inner_of_pairs c.members_of_vector.ensures.some c.members_of_vector.ensures.elements c.pairs_of_map.ensures.elements c.pairs_of_map.ensures.values piece pairs said.0 has said.1 in
     let seen = noted_all c.loop-key.map c.args.field c.loop-key.form so_far in
     let said_there = subst (λ (fields : Fields). IsUnderValue fields.value said.0) (sym seen) said.1 in
-    let is : item_of c.args.tower.now (fields_of c.args.field pairs) said.0 c.text.result ≡ c.item_in-item.result =
-    ap (λ (fields : Fields). item_of c.args.tower.now fields said.0 c.text.result) (sym seen) ∙ sym (c.item_in-item.ensures.item said.0 said_there) in
-    subst (λ (item : Result Item FormFault). IsItem c.args.tower.now c.args.field piece item) is (of_map pairs said.0 c.text.result has said.1 c.text.ensures)
+    let is : with_gist (gist_of c.args.tower.now (fields_of c.args.field pairs) said.0 inner.0) (item_of c.args.tower.now (fields_of c.args.field pairs) said.0 c.text.result) ≡ c.with_gist.result =
+    ap (λ (fields : Fields). with_gist (gist_of c.args.tower.now fields said.0 inner.0) (item_of c.args.tower.now fields said.0 c.text.result)) (sym seen)
+    ∙ ap (with_gist (gist_of c.args.tower.now (seen_all c.loop-key.form) said.0 inner.0)) (sym (c.item_in-item.ensures.item said.0 said_there))
+    ∙ sym (c.with_gist.ensures.item said.0 inner.0 said_there inner.1) in
+    subst (IsItem c.args.tower.now c.args.field piece) is (of_map pairs said.0 inner.0 c.text.result has said.1 inner.1 c.text.ensures)

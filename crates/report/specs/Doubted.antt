@@ -1,0 +1,47 @@
+-- What a summary says of the registers whose failures rest on elements that were left out.
+use Rattle.std.specs.Prelude.{ℕ, Bool, List, [], ◌∷◌, ◌++◌, flat_map, filter, length, take, Option, Some, None, is_some, codes, nat_eq, if◌then◌else◌}
+use Rattle.std.specs.Option.{option_map_or}
+use Rattle.std.specs.List.{slice_get}
+use Rattle.std.specs.Fmt.{decimal}
+use Rattle.intervals.specs.declared.operation.RegId.{RegId}
+use Rattle.tower_file.specs.Contents.{TowerModel, Register}
+use Rattle.phrases.specs.Names.{place_text, printed, register_name}
+use Rattle.report.specs.declared.doubt.Doubt.{Doubt}
+use Rattle.report.specs.Failing.{ids_of_tower, more_text}
+
+-- the first element on which the failure of a register rests, or none
+abbrev pub first_rested : List Doubt → RegId → Option (ℕ × ℕ)
+first_rested doubts id = option_map_or (λ doubt. slice_get doubt.rests_on.items 0) (slice_get doubts id.0) None
+
+-- the failure of a register rests on an element that was left out
+abbrev pub is_doubted : List Doubt → RegId → Bool
+is_doubted doubts id = is_some (first_rested doubts id)
+
+-- all registers whose failures rest on elements that were left out, by number
+abbrev pub doubted_of : TowerModel → List Doubt → List RegId
+doubted_of tower doubts = filter (is_doubted doubts) (ids_of_tower tower)
+
+-- the place of an element, as the first of some; empty where there is none
+abbrev pub first_text : Option (ℕ × ℕ) → List ℕ
+first_text None = []
+first_text (Some at) = codes " (first " ++ place_text at.0 at.1 ++ codes ")"
+
+-- a space, the name of a register, and the first element on which its failure rests
+abbrev pub doubted_name : List Register → List Doubt → RegId → List ℕ
+doubted_name registers doubts id = codes " " ++ printed (register_name registers id) ++ first_text (first_rested doubts id)
+
+-- how many registers are in doubt
+abbrev pub doubted_count_text : ℕ → List ℕ
+doubted_count_text many = codes "in doubt " ++ decimal many ++ codes ", since elements were left out:"
+
+-- the names of the first 10 of some registers, and how many more there are
+abbrev pub doubted_names : TowerModel → List Doubt → List RegId → List ℕ
+doubted_names tower doubts ids = flat_map (doubted_name tower.registers doubts) (take 10 ids) ++ more_text (codes " and ") 10 (length ids) (codes " more")
+
+-- the line of the registers in doubt, of which there are these
+abbrev pub doubted_line : TowerModel → List Doubt → List RegId → List ℕ
+doubted_line tower doubts ids = if nat_eq (length ids) 0 then [] else doubted_count_text (length ids) ++ doubted_names tower doubts ids ++ 10 ∷ []
+
+-- the line of the registers whose failures rest on elements that were left out; empty where there is none
+abbrev pub doubted_text : TowerModel → List Doubt → List ℕ
+doubted_text tower doubts = doubted_line tower doubts (doubted_of tower doubts)
