@@ -1,8 +1,8 @@
 (ns audit
   "What `regaudit check` says of a history of Jepsen: reads and writes of one register, or of independent keys."
-  (:require [clojure.java.io :as io]
-            [clojure.java.shell :refer [sh]]
-            [clojure.string :as str]))
+  (:require [clojure.edn :as edn]
+            [clojure.java.io :as io]
+            [clojure.java.shell :refer [sh]]))
 
 (defn- tower [ops initial]
   (let [names (distinct (for [{:keys [f value]} ops :when (and (#{:read :write} f) (vector? value))] (first value)))
@@ -16,18 +16,23 @@
       (run! prn forms))))
 
 (defn audit
-  "Writes the tower file and the trace to the folder, has them judged, and keeps the report beside them.
-  All that a client did is handed over: an operation that is neither read nor write is refused, and so it is counted."
+  "Writes the tower file and the trace to the folder, has them judged, and keeps the records beside them.
+  All that a client did is handed over: an operation that is neither read nor write is refused, and so it is counted.
+  A register that fails is in doubt where that rests on what was refused; where each culprit is, nobody knows."
   [{:keys [program folder initial options] :or {program "regaudit"}} history]
-  (let [[tower-file trace report] (map #(str (io/file folder %)) ["tower.edn" "trace.edn" "report.txt"])
+  (let [[tower-file trace kept] (map #(str (io/file folder %)) ["tower.edn" "trace.edn" "records.edn"])
         ops (filter #(integer? (:process %)) history)]
     (write-forms tower-file [(tower ops initial)])
     (write-forms trace (map #(select-keys % [:process :type :f :value :index]) ops))
-    (let [words (concat ["check" "--tower" tower-file] options [trace])
+    (let [words (concat ["check" "--as" "edn" "--tower" tower-file] options [trace])
           {:keys [exit out err]} (apply sh program words)
-          lines (str/split-lines out)]
-      (spit report (str out err))
-      {:valid? (case (int exit) 0 true 1 false :unknown)
+          records (mapv edn/read-string (re-seq #"[^\n]+\n" out))
+          fails (filter #(and (= :register (:t %)) (not (:holds %))) records)
+          culprits (filter :culprit fails)
+          failed (if (every? (comp seq :rests_on) culprits) :unknown false)]
+      (spit kept (str out err))
+      {:valid? (if (= :end (:t (peek records))) (get {0 true, 1 failed} exit :unknown) :unknown)
        :status exit
-       :culprits (vec (keep #(second (re-matches #"culprit (.*)" %)) lines))
-       :refused (count (filter #(str/starts-with? % "refused ") lines))})))
+       :culprits (mapv :name culprits)
+       :fails (mapv #(select-keys % [:name :fault :rests_on]) fails)
+       :refused (count (filter #(= :refused (:t %)) records))})))
