@@ -87,11 +87,11 @@ FILES = ["tower.edn", 'to"wer.edn', "to\\wer.edn", "t\u00f6wer.edn", "a b.edn", 
 # the tower's only one; `writes` is what it would have written; `of` the place that it edits; `answers` the process whose
 # invocation it answers; `claims` that it claims a kind.
 UNREAD = "unread"
-NOBODY = {"register": "only", "writes": [None]}
-JUNK = [(b"5", {}), (b'"text"', {}), (b"{}", NOBODY), (b"{:process 0}", NOBODY), (b"{:edit :withdraw}", {}),
-        (b"{:process 0 :process 1}", NOBODY), (b"{:ask a :ask a}", {}), (b"{:process 0 :type :begin}", NOBODY),
+JUNK = [(b"5", {}), (b'"text"', {}), (b"{}", {}), (b"{:process 0}", {}), (b"{:edit :withdraw}", {}),
+        (b"{:process 0 :process 1}", {}), (b"{:ask a :ask a}", {}), (b"{:process 0 :type :begin}", {}),
+        (b"{:process 0 :type :invoke :f :write :index -1 :time -1}", {"register": "only", "writes": [None]}),
         (b"{:edit :move :of 0}", {"of": 0}),
-        (b"{:process 0 :type :info :f :cas}", {"register": "only", "answers": 0}),
+        (b"{:process 0 :type :info :f :cas}", {"answers": 0}),
         (b"{:process 0 :type :fail :f :cas :value [NAME [1 VALUE]]}", {"register": "NAME", "answers": 0}),
         (b"{:process 0 :type :invoke :f :cas :value [NAME [1 VALUE]] :index 3 :time 3}",
          {"register": "NAME", "writes": ["VALUE"]}),
@@ -366,8 +366,9 @@ class Run:
             self.words.append(b"--moment=" + self.moment.encode())
         if chance.random() < 0.3:
             self.words.append(b"--shards=%d" % chance.randint(1, 5))
-        if chance.random() < 0.2:
-            self.words.append(b"--least=%d" % chance.choice([1, 10, 40]))
+        self.least = chance.choice([1, 10, 40]) if chance.random() < 0.2 else 0
+        if self.least:
+            self.words.append(b"--least=%d" % self.least)
         self.order = chance.choice(self.registers) if chance.random() < 0.5 else None
         if self.order and is_utf8(self.order.name):
             self.words.append(b"--order=" + self.order.name)

@@ -9,7 +9,7 @@ use Rattle.shards.specs.Closing.{ClosedShard}
 use Rattle.logs.specs.declared.log.Log.{Log}
 use Rattle.feeders.specs.Readers.{AreReadOf}
 use Rattle.logs.specs.Run.{IsRun}
-use Rattle.words.specs.Words.{AskedCheck}
+use Rattle.words.specs.Words.{AskedCheck, has_records}
 use Rattle.check_command.specs.declared.one_register.Audit.{Audit}
 use Rattle.check_command.specs.Audit.{IsAudit}
 use Rattle.command_parts.specs.Status.{status_of}
@@ -17,7 +17,7 @@ use Rattle.check_command.specs.Verdict.{IsAudited, verdict_line}
 use Rattle.check_command.specs.Checked.{IsChecked, IsPrinted}
 use Rattle.command_parts.specs.Tower.{IsNamed}
 use Rattle.command_parts.specs.Status.{IsStatus}
-use Rattle.check_command.specs.Kept.{AreKeptIn}
+use Rattle.command_parts.specs.Kept.{AreKeptIf}
 
 -- `AreTheir known` says that the files hold these texts
 pub checked : (held : Option (List ℕ)) (asked : AskedCheck) (tower : TowerModel) (order : Option RegId) (closed : List ClosedShard) (logs : List Log) (lefts : List (Option (List ℕ))) (AreTheir : List (List ℕ) → Type 0) (kept : List (List ℕ)) (status : ℕ) (old new : Option (List ℕ))
@@ -25,9 +25,9 @@ pub checked : (held : Option (List ℕ)) (asked : AskedCheck) (tower : TowerMode
     → IsNamed tower asked.order order
     → ((known : List (List ℕ)) → AreTheir known → lefts ≡ map (λ text. Some text) known)
     → ((read : List (List ℕ)) × AreReadOf lefts logs read × IsRun tower asked.moments asked.shards read closed logs)
-    → AreKeptIn asked.form lefts logs kept
+    → AreKeptIf (has_records asked.form) lefts logs kept
     → ((text : List ℕ) × IsPrinted asked status tower closed logs order kept text × Appends old new text)
-    → IsStatus tower closed logs asked.least asked.least_each status
+    → IsStatus tower closed logs asked.demand status
     → IfSome held (λ file. (traces : List (List ℕ)) → AreTheir traces → IsChecked asked file traces status old new)
 checked None asked tower order closed logs lefts AreTheir kept status old new says named opened run are_kept report is = search rules
 checked (Some file) asked tower order closed logs lefts AreTheir kept status old new says named opened run are_kept report is =
@@ -42,7 +42,7 @@ checked (Some file) asked tower order closed logs lefts AreTheir kept status old
       are_read = subst (λ (l : List (Option (List ℕ))). AreReadOf l logs run.0) (opened traces are) run.1;
       run = run.2;
       kept = kept;
-      are_kept = subst (λ (l : List (Option (List ℕ))). AreKeptIn asked.form l logs kept) (opened traces are) are_kept;
+      are_kept = subst (λ (l : List (Option (List ℕ))). AreKeptIf (has_records asked.form) l logs kept) (opened traces are) are_kept;
       text = report.0;
       printed = report.1;
       written = report.2;

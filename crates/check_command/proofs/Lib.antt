@@ -7,5 +7,3 @@ mod AloneJournal
 mod Alone
 -- at a status other than 2 what was read is whole
 mod Whole
--- the texts that are kept of traces
-pub mod KeptTexts

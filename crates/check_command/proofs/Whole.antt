@@ -7,13 +7,13 @@ use Rattle.logs.specs.declared.log.Log.{Log}
 use Rattle.feeders.specs.Readers.{AreReadOf, IsReadOf}
 use Rattle.words.specs.Words.{AskedCheck}
 use Rattle.report.specs.Summary.{is_broken}
-use Rattle.command_parts.specs.Status.{has_refused, status_of}
+use Rattle.command_parts.specs.Status.{failing_status, has_refused, status_by}
 use Rattle.check_command.specs.Checked.{IsChecked}
 use Rattle.check_command.specs.Verdict.{IsAudited}
 
-none_broke : (broken fails refused few : Bool) → status_of broken fails refused few ≢ 2 → broken ≡ false
-none_broke true fails refused few other = absurd (other refl)
-none_broke false fails refused few other = refl
+none_broke : (failing : ℕ) (broken fails refused few : Bool) → status_by failing broken fails refused few ≢ 2 → broken ≡ false
+none_broke failing true fails refused few other = absurd (other refl)
+none_broke failing false fails refused few other = refl
 
 one_whole : (all read : List ℕ) (broken : Option Broken) → is_some broken ≡ false → IsReadOf (Some all) broken read → read ≡ all
 one_whole all read None whole is = is
@@ -42,8 +42,8 @@ checked_whole asked file traces status old new is other =
     let fails = is.status_is.fails in
     let broken : Bool = list_any is_broken is.logs in
     let refused : Bool = list_any has_refused is.logs in
-    all_whole traces is.read is.logs (none_broke broken fails refused is.status_is.few (subst (λ (n : ℕ). n ≢ 2) is.status_is.status_is other)) is.are_read
+    all_whole traces is.read is.logs (none_broke (failing_status asked.demand.doubt is.status_is.in_doubt) broken fails refused is.status_is.few (subst (λ (n : ℕ). n ≢ 2) is.status_is.status_is other)) is.are_read
 
 pub audited_whole : (input : List ℕ) (status : ℕ) (old new : Option (List ℕ)) → (is : IsAudited input status old new) → status ≢ 2 → is.read ≡ input
 audited_whole input status old new is other =
-    one_whole input is.read is.broken (none_broke (is_some is.broken) (not is.holds) is.refused false (subst (λ (n : ℕ). n ≢ 2) is.status_is other)) is.is_read
+    one_whole input is.read is.broken (none_broke 1 (is_some is.broken) (not is.holds) is.refused false (subst (λ (n : ℕ). n ≢ 2) is.status_is other)) is.is_read

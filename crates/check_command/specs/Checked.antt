@@ -11,18 +11,20 @@ use Rattle.logs.specs.Run.{IsRun}
 use Rattle.report.specs.Report.{IsReport}
 use Rattle.report.specs.Summary.{IsSummary}
 use Rattle.report.specs.declared.fault.ReportFault.{ReportFault}
+use Rattle.report.specs.declared.few.Least.{Least}
 use Rattle.report.specs.declared.fault.ReportFault.TheVariants as reports
 use Rattle.records.specs.declared.line.Notation.{Notation}
 use Rattle.records.specs.declared.line.Notation.TheVariants as notations
 use Rattle.records.specs.Run.{IsTextOfRecords, RunNames}
 use Rattle.words.specs.declared.check.ReportForm.{ReportForm}
+use Rattle.words.specs.declared.demand.Demand.{Demand}
 use Rattle.words.specs.declared.check.ReportForm.TheVariants.{Report, Summary, Json, Edn}
 use Rattle.jepsen_form.specs.declared.item.MomentField.{MomentField}
 use Rattle.jepsen_form.specs.declared.item.MomentField.TheVariants.{Index, Time}
-use Rattle.words.specs.Words.{AskedCheck}
-use Rattle.check_command.specs.Kept.{AreKeptIn}
+use Rattle.words.specs.Words.{AskedCheck, has_records}
 use Rattle.command_parts.specs.declared.fault.CommandFault.{CommandFault}
 use Rattle.command_parts.specs.declared.fault.CommandFault.TheVariants.{Memory, Unwritable}
+use Rattle.command_parts.specs.Kept.{AreKeptIf}
 use Rattle.command_parts.specs.Status.{IsStatus}
 use Rattle.command_parts.specs.Tower.{IsNamed}
 
@@ -31,9 +33,13 @@ abbrev pub moment_word : MomentField → List ℕ
 moment_word Index = codes "index"
 moment_word Time = codes "time"
 
--- what the first record of a run names
+-- how many operations have to stand, at least
+abbrev pub least_asked : Demand → Least
+least_asked demand = record { all = demand.least; each = demand.least_each }
+
+-- what the first and the last record of a run name
 abbrev pub record_names : AskedCheck → RunNames
-record_names asked = record { tower = asked.tower; traces = asked.traces; moments = moment_word asked.moments }
+record_names asked = record { tower = asked.tower; traces = asked.traces; moments = moment_word asked.moments; least = least_asked asked.demand }
 
 -- the text has the records of a run in this notation, with the lines and the bytes of elements in the texts that were
 -- kept of the traces
@@ -45,7 +51,7 @@ ArePrinted notation asked status tower closed logs order kept text =
 -- records
 abbrev pub IsPrintedIn : ReportForm → AskedCheck → ℕ → TowerModel → List ClosedShard → List Log → Option RegId → List (List ℕ) → List ℕ → Type 0
 IsPrintedIn Report asked status tower closed logs order kept text = IsReport tower closed logs order text
-IsPrintedIn Summary asked status tower closed logs order kept text = IsSummary tower closed logs text
+IsPrintedIn Summary asked status tower closed logs order kept text = IsSummary tower (least_asked asked.demand) closed logs text
 IsPrintedIn Json asked status tower closed logs order kept text = ArePrinted notations.Json asked status tower closed logs order kept text
 IsPrintedIn Edn asked status tower closed logs order kept text = ArePrinted notations.Edn asked status tower closed logs order kept text
 
@@ -71,8 +77,8 @@ pub record IsChecked (asked : AskedCheck) (file : List ℕ) (traces : List (List
   pub are_read : AreReadOf (map (λ trace. Some trace) traces) logs read
   pub run : IsRun tower asked.moments asked.shards read closed logs
   pub kept : List (List ℕ)
-  pub are_kept : AreKeptIn asked.form (map (λ trace. Some trace) traces) logs kept
+  pub are_kept : AreKeptIf (has_records asked.form) (map (λ trace. Some trace) traces) logs kept
   pub text : List ℕ
   pub printed : IsPrinted asked status tower closed logs order kept text
   pub written : Appends old new text
-  pub status_is : IsStatus tower closed logs asked.least asked.least_each status
+  pub status_is : IsStatus tower closed logs asked.demand status

@@ -1,6 +1,5 @@
 -- words of the public clauses
 pub mod Verdict
-pub mod Kept
 pub mod Checked
 -- words of private clauses
 pub mod Audit

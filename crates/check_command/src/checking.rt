@@ -5,23 +5,22 @@ ghost use Rattle.std.specs.Io.KnownBytes.{Appends};
 ghost use Rattle.report.specs.Finding.{IsOfTower};
 ghost use Rattle.words.specs.Words.{asked_check};
 ghost use Rattle.records.specs.Run.{names_of};
-ghost use Rattle.check_command.specs.Checked.{ArePrinted, IsChecked, IsPrintedIn, moment_word, record_names, unreported};
+ghost use Rattle.check_command.specs.Checked.{ArePrinted, IsChecked, IsPrintedIn, least_asked, moment_word, record_names, unreported};
 ghost use Rattle.command_parts.specs.Files.{AreHeld};
 
-use crate::judging::{Judged, judge};
-use command_parts::{CommandFault, Files, Job, OpenedRun, open_run, status_after};
+use command_parts::{CommandFault, Files, Job, Judged, OpenedRun, judge, open_run, status_after};
 use intervals::RegId;
 use jepsen_form::MomentField;
 use records::{Form, Notation, write_records};
 use report::laws::a_run_is_of_its_tower;
-use report::{ReportFault, report, summary};
+use report::{Least, ReportFault, report, summary};
 use std::alloc::Global;
 use std::io::Write;
 use std::mem::forget;
 use std::sync::Wait;
 use std::thread::Threads;
 use tower_file::Tower;
-use words::{Check, ReportForm};
+use words::{Check, Demand, ReportForm};
 
 /// Judges the registers of a tower by traces while these are read, and writes the report, also where a trace or its
 /// reading breaks off. The faults come in this order: too many traces, the tower file, the register whose order is
@@ -54,11 +53,11 @@ pub fn check<'a, A: AllocGlobal + Threads + Wait + Sync, F: Files, W: Write>(
         moments: asked.moments,
         shards: asked.shards,
     };
-    let judged = match judge(&job, asked.form, readers) {
+    let judged = match judge(&job, asked.form.has_records(), readers) {
         Ok(judged) => judged,
         Err(fault) => return Err(CommandFault::of_run(fault)),
     };
-    let Ok(status) = status_after(alloc, asked.least, asked.least_each, &tower, &judged.run) else {
+    let Ok(status) = status_after(alloc, asked.demand, &tower, &judged.run) else {
         return Err(CommandFault::Memory);
     };
     let outcome = Outcome {
@@ -115,9 +114,18 @@ fn print<A: AllocGlobal + Threads + Wait + Sync, W: Write>(
     let run = &outcome.judged.run;
     match form {
         ReportForm::Report => report(rt, alloc, outcome.tower, run, outcome.order, out),
-        ReportForm::Summary => summary(alloc, outcome.tower, run, out),
+        ReportForm::Summary => summary(alloc, outcome.tower, run, least_asked(asked.demand), out),
         ReportForm::Json => print_records(alloc, Notation::Json, asked, outcome, out),
         ReportForm::Edn => print_records(alloc, Notation::Edn, asked, outcome, out),
+    }
+}
+
+fn least_asked(demand: Demand) -> Least
+    ensures { result ≡ least_asked demand }
+{
+    Least {
+        all: demand.least,
+        each: demand.least_each,
     }
 }
 
@@ -154,6 +162,7 @@ fn form_of<'b>(asked: &'b Check<'_>, notation: Notation, outcome: &Outcome) -> F
         moments: moment_word(asked.moments),
         order: outcome.order,
         status: outcome.status,
+        least: least_asked(asked.demand),
     }
 }
 

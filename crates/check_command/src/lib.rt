@@ -4,8 +4,6 @@
 #![tactic(auto)]
 
 mod checking;
-mod judging;
-mod kept;
 pub mod laws;
 mod one_register;
 

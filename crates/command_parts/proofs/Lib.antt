@@ -1,2 +1,4 @@
 -- files and inputs whose bytes are known: what was read of them is what they hold
 pub mod Readings
+-- the texts that are kept of traces
+pub mod KeptTexts

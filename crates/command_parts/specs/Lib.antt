@@ -2,5 +2,6 @@
 pub mod Complaint
 pub mod Files
 pub mod Job
+pub mod Kept
 pub mod Status
 pub mod Tower

@@ -1,30 +1,41 @@
 //! The status of a run.
 
-ghost use Rattle.std.specs.Prelude.{◌≡◌, ◌↔◌, IfOk, IsTrue, false, nat_lt};
+ghost use Rattle.std.specs.Prelude.{◌≡◌, ◌↔◌, ◌⊎◌, IfOk, IsTrue, false, nat_lt};
 ghost use Rattle.std.specs.List.{list_any};
 ghost use Rattle.std.specs.Option.{option_map_or};
 ghost use Rattle.report.specs.Culprit.{Fails};
+ghost use Rattle.report.specs.Doubted.{AreAllInDoubt};
+ghost use Rattle.report.specs.Finding.{IsOfTower};
 ghost use Rattle.report.specs.Refused.{is_refused_line};
 ghost use Rattle.report.specs.Summary.{is_broken};
-ghost use Rattle.command_parts.specs.Status.{HasFailing, HasTooFew, IsStatus, has_refused, status_of};
+ghost use Rattle.command_parts.specs.Status.{HasFailing, HasTooFew, IsStatus, failing_status, has_refused, status_by, status_of};
 
 use intervals::RegId;
 use logs::{Line, Log, Run, What};
-use report::standing_counts;
+use report::{are_all_in_doubt, standing_counts};
 use shards::Closed;
 use std::alloc::{AllocError, Global};
 use tower_file::Tower;
+use words::Demand;
 
 /// The status of a run whose trace broke, or that could not read, write or go on.
 pub const BROKEN: u8 = 2;
 
+/// The status of a run of which this is so.
 pub fn status_of(broken: bool, fails: bool, refused: bool, few: bool) -> u8
     ensures { result ≡ status_of broken fails refused few }
+{
+    status_by(1, broken, fails, refused, few)
+}
+
+/// The status of a run of which this is so, where it is `failing` if a register fails.
+fn status_by(failing: u8, broken: bool, fails: bool, refused: bool, few: bool) -> u8
+    ensures { result ≡ status_by failing broken fails refused few }
 {
     if broken {
         BROKEN
     } else if fails {
-        1
+        failing
     } else if refused {
         3
     } else if few {
@@ -111,18 +122,37 @@ fn is_failing(closed: &Closed, id: RegId) -> bool
     }
 }
 
-/// The status of a run, where at least so many operations have to stand in all registers together, and in each.
+/// Whether each failure of a register rests on elements that were left out; not looked at where the status is 1 all the same.
+fn are_in_doubt(alloc: Global, doubt: u8, tower: &Tower, run: &Run) -> Result<bool, AllocError>
+    requires of_tower { IsOfTower tower.now run.now.closed }
+    ensures { IfOk result (λ in_doubt. (doubt ≡ 1) ⊎ AreAllInDoubt tower.now run.now.closed run.now.logs.items in_doubt) }
+{
+    if doubt == 1 {
+        return Ok(false);
+    }
+    are_all_in_doubt(alloc, tower, run)
+}
+
+fn failing_status(doubt: u8, in_doubt: bool) -> u8
+    ensures { result ≡ failing_status doubt in_doubt }
+{
+    if in_doubt { doubt } else { 1 }
+}
+
+/// The status of a run over the registers of a tower, by what it has to meet.
 pub fn status_after(
     alloc: Global,
-    least: u64,
-    least_each: u64,
+    demand: Demand,
     tower: &Tower,
     run: &Run,
 ) -> Result<u8, AllocError>
-    ensures { IfOk result (IsStatus tower.now run.now.closed run.now.logs.items least least_each) }
+    requires of_tower { IsOfTower tower.now run.now.closed }
+    ensures { IfOk result (IsStatus tower.now run.now.closed run.now.logs.items demand) }
 {
-    let few = has_too_few(alloc, tower, &run.closed, least, least_each)?;
-    Ok(status_of(
+    let few = has_too_few(alloc, tower, &run.closed, demand.least, demand.least_each)?;
+    let in_doubt = are_in_doubt(alloc, demand.doubt, tower, run)?;
+    Ok(status_by(
+        failing_status(demand.doubt, in_doubt),
         any_broken(&run.logs),
         any_fails(tower, &run.closed),
         any_refused(&run.logs),

@@ -28,7 +28,7 @@ use Rattle.jepsen_form.specs.declared.fault.FormFault.TheVariants.{BadType, NotA
 use Rattle.jepsen_form.specs.declared.gist.Gist.{Gist}
 use Rattle.jepsen_form.specs.declared.gist.RefusedForm.{RefusedForm}
 use Rattle.jepsen_form.specs.Fields.{UnderValue, NoValue, AValue, NamedValue, ManyValues, IsUnderValue, missing, plain, vector, repeated, Fields, fields_of, two_of, by_two}
-use Rattle.jepsen_form.specs.Item.{the_one, at_most_one, is_there, value_stated, moment_of, end_of, the_stage, the_action, the_register, the_moment, if_told, value_told, by_process, change_of, edited_place, kind_stated, claim_of, edit_by, question_of, register_named, item_of, no_gist, value_in, gist_of, with_gist, IsItem, no_map, of_map, text_at, lying_at, answer_with}
+use Rattle.jepsen_form.specs.Item.{the_one, at_most_one, is_there, value_stated, moment_of, end_of, the_stage, the_action, the_register, the_moment, if_told, value_told, by_process, change_of, edited_place, kind_stated, claim_of, edit_by, question_of, register_named, item_of, no_gist, inner_field, gist_of, with_gist, IsItem, no_map, of_map, text_at, lying_at, answer_with}
 
 -- what is known of vectors and maps: there is a list of their members or pairs, and only one
 abbrev pub SomeMembers : Type 0
@@ -250,10 +250,10 @@ same_parts one place tower chosen pairs others said other_said first second same
 
 -- what can be read of a map is one thing, as what its value is
 same_gist : OneMembers → (tower : TowerModel) (chosen : MomentField) (pairs others : List (ElementModel × ElementModel)) (said other_said inner other_inner : UnderValue) → pairs ≡ others → Says pairs said → Says others other_said
-    → IsUnderValue (value_in said) inner → IsUnderValue (value_in other_said) other_inner → gist_of tower (fields_of chosen pairs) said inner ≡ gist_of tower (fields_of chosen others) other_said other_inner
+    → IsUnderValue (inner_field said) inner → IsUnderValue (inner_field other_said) other_inner → gist_of tower (fields_of chosen pairs) said inner ≡ gist_of tower (fields_of chosen others) other_said other_inner
 same_gist one tower chosen pairs others said other_said inner other_inner same says other_says within other_within =
     let said_same = one_under_value one (given (values_of (codes ":value") others)) said other_said (subst (λ (list : List (ElementModel × ElementModel)). Says list said) same says) other_says in
-    let inner_same = one_under_value one (value_in other_said) inner other_inner (subst (λ (said : UnderValue). IsUnderValue (value_in said) inner) said_same within) other_within in
+    let inner_same = one_under_value one (inner_field other_said) inner other_inner (subst (λ (said : UnderValue). IsUnderValue (inner_field said) inner) said_same within) other_within in
     ap (λ (list : List (ElementModel × ElementModel)). gist_of tower (fields_of chosen list) said inner) same
     ∙ ap (λ (said : UnderValue). gist_of tower (fields_of chosen others) said inner) said_same
     ∙ ap (gist_of tower (fields_of chosen others) other_said) inner_same
@@ -341,14 +341,14 @@ whole_in_values members [] said whole missing = tt
 whole_in_values members (value ∷ []) said whole says = whole_in_one members value said whole.0 says
 whole_in_values members (value ∷ other ∷ values) said whole repeated = tt
 
-inner_of_whole : SomeMembers → (said : UnderValue) → IsWholeIn said → (inner : UnderValue) × IsUnderValue (value_in said) inner
+inner_of_whole : SomeMembers → (said : UnderValue) → IsWholeIn said → (inner : UnderValue) × IsUnderValue (inner_field said) inner
 inner_of_whole some NoValue whole = (NoValue, missing)
 inner_of_whole some (AValue value) whole = under_value_of_one some value value.core.kind refl whole
 inner_of_whole some (NamedValue name value) whole = under_value_of_one some value value.core.kind refl whole
 inner_of_whole some ManyValues whole = (ManyValues, repeated)
 
 pub inner_of_pairs : SomeMembers → ElementMembers → ElementPairs → ElementValues → (piece : ElementModel) (pairs : List (ElementModel × ElementModel)) (said : UnderValue) → HasPairs piece pairs → Says pairs said
-    → (inner : UnderValue) × IsUnderValue (value_in said) inner
+    → (inner : UnderValue) × IsUnderValue (inner_field said) inner
 inner_of_pairs some members whole values piece pairs said has says =
     inner_of_whole some said (whole_in_values members (values_of (codes ":value") pairs) said (values (codes ":value") pairs (whole piece pairs has)) says)
 

@@ -241,26 +241,34 @@ process_answered (Ok stages.Info) process = process
 process_answered (Err fault) process = None
 
 -- the field of which a value is that is said under `:value`, with a register's name or without
-abbrev pub value_in : UnderValue → Given ElementModel
-value_in NoValue = Missing
-value_in (AValue value) = One value
-value_in (NamedValue name value) = One value
-value_in ManyValues = Many
+abbrev pub inner_field : UnderValue → Given ElementModel
+inner_field NoValue = Missing
+inner_field (AValue value) = One value
+inner_field (NamedValue name value) = One value
+inner_field ManyValues = Many
+
+-- what an event that is neither a read nor a write would have written by what is said under `:value`: nothing where
+-- nothing is said
+abbrev pub written_said : UnderValue → Written
+written_said NoValue = Nothing
+written_said (AValue value) = known_or_unread (the_value (AValue value))
+written_said (NamedValue name value) = known_or_unread (the_value (NamedValue name value))
+written_said ManyValues = Unread
 
 -- what an event would have written: nothing where it is a `:read`, a `:fail` or an `:info`, else the value, which of a
--- pair is the second of the two, the new value. The last argument is what the value is (`value_in`).
-abbrev pub written_by : Result Stage FormFault → Result Action FormFault → UnderValue → Written
-written_by (Ok stages.Fail) action inner = Nothing
-written_by (Ok stages.Info) action inner = Nothing
-written_by (Ok stages.Invoke) (Ok Read) inner = Nothing
-written_by (Ok stages.Ok) (Ok Read) inner = Nothing
-written_by (Err fault) (Ok Read) inner = Nothing
-written_by (Ok stages.Invoke) (Ok Write) inner = known_or_unread (the_value inner)
-written_by (Ok stages.Ok) (Ok Write) inner = known_or_unread (the_value inner)
-written_by (Err fault) (Ok Write) inner = known_or_unread (the_value inner)
-written_by (Ok stages.Invoke) (Err other) inner = known_or_unread (the_value inner)
-written_by (Ok stages.Ok) (Err other) inner = known_or_unread (the_value inner)
-written_by (Err fault) (Err other) inner = known_or_unread (the_value inner)
+-- pair is the second of the two, the new value; a write without a value writes nil. The last argument is what the value is (`inner_field`).
+abbrev pub written_of_event : Result Stage FormFault → Result Action FormFault → UnderValue → Written
+written_of_event (Ok stages.Fail) action inner = Nothing
+written_of_event (Ok stages.Info) action inner = Nothing
+written_of_event (Ok stages.Invoke) (Ok Read) inner = Nothing
+written_of_event (Ok stages.Ok) (Ok Read) inner = Nothing
+written_of_event (Err fault) (Ok Read) inner = Nothing
+written_of_event (Ok stages.Invoke) (Ok Write) inner = known_or_unread (the_value inner)
+written_of_event (Ok stages.Ok) (Ok Write) inner = known_or_unread (the_value inner)
+written_of_event (Err fault) (Ok Write) inner = known_or_unread (the_value inner)
+written_of_event (Ok stages.Invoke) (Err other) inner = written_said inner
+written_of_event (Ok stages.Ok) (Err other) inner = written_said inner
+written_of_event (Err fault) (Err other) inner = written_said inner
 
 -- a pair of two values, and no register's name, is under `:value` where the name is none and the value is no pair
 abbrev pub register_of_pair : TowerModel → UnderValue → Option RegId
@@ -269,7 +277,7 @@ register_of_pair tower (AValue value) = result_ok (only_register tower)
 register_of_pair tower (NamedValue name value) = None
 register_of_pair tower ManyValues = None
 
--- the register of an event, by that which is read: where the tower has none of this name and the `:f` is an other word
+-- the register of an event, by that which is read: where the tower has none of this name and the `:f` is another word
 -- than `:read` and `:write`, what is there may be a pair of two values of the tower's only register
 abbrev pub register_or : TowerModel → Result Action FormFault → UnderValue → Result RegId FormFault → Option RegId
 register_or tower action inner (Ok register) = Some register
@@ -277,13 +285,22 @@ register_or tower (Ok action) inner (Err fault) = None
 register_or tower (Err UnsupportedF) inner (Err fault) = register_of_pair tower inner
 register_or tower (Err other) inner (Err fault) = None
 
--- what can be read of an event; the last argument is what its value is (`value_in`)
+-- the register of an event by what is said under `:value`: where nothing is said, the tower's only one if it is a read or
+-- a write, and none of an event whose `:f` is another word or cannot be read
+abbrev pub register_said : TowerModel → Result Action FormFault → UnderValue → UnderValue → Option RegId
+register_said tower (Ok action) said inner = register_or tower (Ok action) inner (the_register tower said)
+register_said tower (Err fault) NoValue inner = None
+register_said tower (Err fault) (AValue value) inner = register_or tower (Err fault) inner (the_register tower (AValue value))
+register_said tower (Err fault) (NamedValue name value) inner = register_or tower (Err fault) inner (the_register tower (NamedValue name value))
+register_said tower (Err fault) ManyValues inner = register_or tower (Err fault) inner (the_register tower ManyValues)
+
+-- what can be read of an event; the last argument is what its value is (`inner_field`)
 abbrev pub event_gist : TowerModel → Fields → UnderValue → UnderValue → Gist
 event_gist tower found said inner = record {
   answers = process_answered (the_stage found.stage) (process_said found.process);
   of = None;
-  register = register_or tower (the_action found.action) inner (the_register tower said);
-  written = written_by (the_stage found.stage) (the_action found.action) inner;
+  register = register_said tower (the_action found.action) said inner;
+  written = written_of_event (the_stage found.stage) (the_action found.action) inner;
   claims = false;
 }
 
@@ -294,10 +311,10 @@ written_if (Ok (Some value)) = Known value
 written_if (Err fault) = Unread
 
 -- whether the keyword under `:edit` is that of a claim
-abbrev pub is_claim : Given ElementModel → Bool
-is_claim Missing = false
-is_claim (One keyword) = is_word (codes ":claim") keyword
-is_claim Many = false
+abbrev pub says_claim : Given ElementModel → Bool
+says_claim Missing = false
+says_claim (One keyword) = is_word (codes ":claim") keyword
+says_claim Many = false
 
 -- what can be read of an edit
 abbrev pub edit_gist : TowerModel → Fields → Gist
@@ -306,7 +323,7 @@ edit_gist tower found = record {
   of = result_ok (edited_place found);
   register = result_ok (claimed_register tower found);
   written = written_if (at_most_one fields.Value value_stated found.value);
-  claims = is_claim found.edit;
+  claims = says_claim found.edit;
 }
 
 -- what can be read of a map: of an edit, of an event, and nothing of a question
@@ -327,7 +344,7 @@ pub data IsItem (tower : TowerModel) (chosen : MomentField) : ElementModel → R
   no_map : {piece : ElementModel} → ((pairs : List (ElementModel × ElementModel)) → HasPairs piece pairs → ⊥)
       → IsItem tower chosen piece (with_gist no_gist (Err NotAMap))
   of_map : {piece : ElementModel} (pairs : List (ElementModel × ElementModel)) (said inner : UnderValue) (text : Bor (List ℕ)) → HasPairs piece pairs
-      → IsUnderValue (given (values_of (codes ":value") pairs)) said → IsUnderValue (value_in said) inner → text.now ≡ piece.text
+      → IsUnderValue (given (values_of (codes ":value") pairs)) said → IsUnderValue (inner_field said) inner → text.now ≡ piece.text
       → IsItem tower chosen piece (with_gist (gist_of tower (fields_of chosen pairs) said inner) (item_of tower (fields_of chosen pairs) said text))
 
 -- ---- where a text lies

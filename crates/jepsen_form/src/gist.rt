@@ -5,7 +5,7 @@ ghost use Rattle.edn_reader.specs.Given.{seen};
 ghost use Rattle.jepsen_form.specs.Fields.{IsUnderValue, UnderValue};
 ghost use Rattle.jepsen_form.specs.Form.{seen_all, under_value};
 ghost use Rattle.jepsen_form.specs.Whole.{IsWhole};
-ghost use Rattle.jepsen_form.specs.Item.{edit_gist, event_gist, gist_of, is_claim, known_or_unread, no_gist, process_answered, process_said, register_of_pair, register_or, value_in, with_gist, written_by, written_if};
+ghost use Rattle.jepsen_form.specs.Item.{edit_gist, event_gist, gist_of, inner_field, known_or_unread, no_gist, process_answered, process_said, register_of_pair, register_or, register_said, says_claim, with_gist, written_if, written_of_event, written_said};
 
 use crate::edit::{place_edited, register_claimed};
 use crate::element::{given_value, is_given};
@@ -54,7 +54,7 @@ pub fn with_gist<'t>(
     form: &EventFields,
     tower: &Tower,
 ) -> Result<Item<'t>, RefusedForm>
-    ensures item { (said inner : UnderValue) → IsUnderValue (seen form.now.value) said → IsUnderValue (value_in said) inner
+    ensures item { (said inner : UnderValue) → IsUnderValue (seen form.now.value) said → IsUnderValue (inner_field said) inner
         → result ≡ with_gist (gist_of tower.now (seen_all form.now) said inner) item.entry }
     ensures whole { IfOk item.entry IsWhole → IfOk result IsWhole }
 {
@@ -90,7 +90,7 @@ fn no_gist() -> Gist
 }
 
 fn gist_of(form: &EventFields, tower: &Tower) -> Gist
-    ensures { (said inner : UnderValue) → IsUnderValue (seen form.now.value) said → IsUnderValue (value_in said) inner
+    ensures { (said inner : UnderValue) → IsUnderValue (seen form.now.value) said → IsUnderValue (inner_field said) inner
         → result ≡ gist_of tower.now (seen_all form.now) said inner }
 {
     if is_given(&form.edit) {
@@ -111,7 +111,7 @@ fn edit_gist(form: &EventFields, tower: &Tower) -> Gist
         of: place_edited(form).ok(),
         register: register_claimed(form, tower).ok(),
         written: written_if(given_value(&form.value)),
-        claims: is_claim(&form.edit),
+        claims: says_claim(&form.edit),
     }
 }
 
@@ -125,8 +125,8 @@ fn written_if(value: Result<Option<Value>, FormFault>) -> Written
     }
 }
 
-fn is_claim(edit: &Field) -> bool
-    ensures { result ≡ is_claim (seen edit.now) }
+fn says_claim(edit: &Field) -> bool
+    ensures { result ≡ says_claim (seen edit.now) }
 {
     match edit {
         Field::Once(keyword) => keyword.is_keyword(b":claim"),
@@ -142,8 +142,8 @@ fn event_gist(form: &EventFields, tower: &Tower, said: &ParsedValue, inner: &Par
     Gist {
         answers: process_answered(stage, process_said(&form.process)),
         of: None,
-        register: register_or(tower, action, inner, register_by(said, tower)),
-        written: written_by(stage, action, inner),
+        register: register_said(tower, action, said, inner),
+        written: written_of_event(stage, action, inner),
         claims: false,
     }
 }
@@ -167,6 +167,22 @@ fn process_answered(stage: Result<Stage, FormFault>, process: Option<i64>) -> Op
     }
 }
 
+fn register_said(
+    tower: &Tower,
+    action: Result<Action, FormFault>,
+    said: &ParsedValue,
+    inner: &ParsedValue,
+) -> Option<RegId>
+    ensures { result ≡ register_said tower.now action (under_value said.now) (under_value inner.now) }
+{
+    match (action, said) {
+        (Err(_), ParsedValue::Nothing) => None,
+        _ => register_or(tower, action, inner, register_by(said, tower)),
+    }
+}
+
+/// The register that was read. Where the tower has none of this name and the operation is neither a read nor a write, what
+/// is there may be a pair of two values, which is of the tower's only register.
 fn register_or(
     tower: &Tower,
     action: Result<Action, FormFault>,
@@ -192,15 +208,26 @@ fn register_of_pair(tower: &Tower, inner: &ParsedValue) -> Option<RegId>
     }
 }
 
-fn written_by(
+fn written_of_event(
     stage: Result<Stage, FormFault>,
     action: Result<Action, FormFault>,
     inner: &ParsedValue,
 ) -> Written
-    ensures { result ≡ written_by stage action (under_value inner.now) }
+    ensures { result ≡ written_of_event stage action (under_value inner.now) }
 {
     match (stage, action) {
         (Ok(Stage::Fail | Stage::Info), _) | (_, Ok(Action::Read)) => Written::Nothing,
+        (_, Ok(Action::Write)) => known_or_unread(given_by(inner)),
+        (_, Err(_)) => written_said(inner),
+    }
+}
+
+/// What an event that is neither a read nor a write would have written.
+fn written_said(inner: &ParsedValue) -> Written
+    ensures { result ≡ written_said (under_value inner.now) }
+{
+    match inner {
+        ParsedValue::Nothing => Written::Nothing,
         _ => known_or_unread(given_by(inner)),
     }
 }

@@ -7,7 +7,7 @@ ghost use Rattle.edn_reader.specs.Given.{One, seen};
 ghost use Rattle.edn_reader.specs.Lent.{piece_of, MembersLeft};
 ghost use Rattle.jepsen_form.specs.Fields.{UnderValue, IsUnderValue, two_of};
 ghost use Rattle.jepsen_form.specs.Form.{under_value};
-ghost use Rattle.jepsen_form.specs.Item.{register_named, only_register, the_register, the_value, value_in, value_told};
+ghost use Rattle.jepsen_form.specs.Item.{register_named, only_register, the_register, the_value, inner_field, value_told};
 
 use crate::element::read_value;
 use crate::fault::{FormFault, FormField};
@@ -68,7 +68,7 @@ fn the_two<'t>(vector: &VectorView<'t>) -> Option<(Element<'t>, Element<'t>)>
 
 /// What the value is that is said, with a register's name or without.
 pub fn inner_of<'t>(said: &ParsedValue<'t>) -> ParsedValue<'t>
-    ensures { (inner : UnderValue) → IsUnderValue (value_in (under_value said.now)) inner → under_value result ≡ inner }
+    ensures { (inner : UnderValue) → IsUnderValue (inner_field (under_value said.now)) inner → under_value result ≡ inner }
 {
     match said {
         ParsedValue::Nothing => ParsedValue::Nothing,

@@ -11,7 +11,7 @@ use Rattle.lint.specs.declared.finding.Problem.{Problem}
 use Rattle.lint.specs.declared.finding.Grade.{Grade}
 use Rattle.lint.specs.declared.finding.Grade.TheVariants as grades
 use Rattle.lint.specs.declared.finding.Note.{Note}
-use Rattle.lint.specs.declared.finding.Note.TheVariants.{Skipped, NoOperation, Unused, NoValue, NearField, Unread, Unanswered, SilentWriter, SameMoment, OutOfProportion, Rests, RestsOnEdit, RestsOnUnread}
+use Rattle.lint.specs.declared.finding.Note.TheVariants.{Skipped, NoOperation, Unused, NoValue, NearField, Unread, Unanswered, SilentWriter, SameMoment, OutOfProportion, Rests, RestsOnEdit, RestsOnAnswer, RestsOnUnread}
 use Rattle.lint.specs.declared.finding.TraceFindings.{TraceFindings}
 
 -- the grade of what is amiss: an error for a break and a fault of the tower file, a warning for a refusal, else a note
@@ -31,10 +31,11 @@ code_of_note (NearField field) = codes "L3"
 code_of_note (Unread meant) = codes "L4"
 code_of_note Unanswered = codes "L5"
 code_of_note (SilentWriter process) = codes "L6"
-code_of_note (SameMoment event) = codes "L7"
-code_of_note OutOfProportion = codes "L7"
+code_of_note (SameMoment event ties) = codes "L7"
+code_of_note (OutOfProportion many) = codes "L7"
 code_of_note (Rests operation) = codes "L8"
 code_of_note (RestsOnEdit operation) = codes "L8"
+code_of_note (RestsOnAnswer operation) = codes "L8"
 code_of_note (RestsOnUnread operation) = codes "L8"
 
 -- the code of what is amiss, as users see it

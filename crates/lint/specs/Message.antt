@@ -13,6 +13,8 @@ use Rattle.tower_file.specs.declared.fault.TowerFault.{TowerFault}
 use Rattle.tower_file.specs.declared.fault.TowerFault.TheVariants as towers
 use Rattle.tower_file.specs.declared.fault.TowerField.{TowerField}
 use Rattle.tower_file.specs.declared.fault.TowerField.TheVariants as parts
+use Rattle.jepsen_form.specs.declared.item.MomentField.{MomentField}
+use Rattle.jepsen_form.specs.declared.item.MomentField.TheVariants.{Index, Time}
 use Rattle.jepsen_form.specs.declared.fault.FormFault.{FormFault}
 use Rattle.jepsen_form.specs.declared.fault.FormFault.TheVariants as forms
 use Rattle.jepsen_form.specs.declared.fault.FormField.{FormField}
@@ -25,7 +27,7 @@ use Rattle.lint.specs.declared.finding.Amiss.TheVariants as amiss
 use Rattle.lint.specs.declared.finding.Note.{Note}
 use Rattle.lint.specs.declared.finding.Note.TheVariants as notes
 use Rattle.lint.specs.Grade.{finding_code}
-use Rattle.lint.specs.declared.sentences.TheConstants.{SKIPPED, NO_OPERATION, UNUSED, NO_VALUE, NEAR_FIELD, UNREAD, UNANSWERED, SILENT_WRITER, SAME_MOMENT, OUT_OF_PROPORTION, RESTS, RESTS_ON_EDIT, RESTS_ON_UNREAD, E1_TRUNCATED, E2_STRAY_CLOSE, E3_WRONG_CLOSE, E4_TOO_DEEP, E5_ODD_MAP, E6_TAG_WITHOUT_ELEMENT, E7_MEMORY, AT_FIRST}
+use Rattle.lint.specs.declared.sentences.TheConstants.{SKIPPED, NO_OPERATION, UNUSED, NO_VALUE, NEAR_FIELD, UNREAD, UNANSWERED, SILENT_WRITER, SAME_MOMENT, OUT_OF_PROPORTION, RESTS, RESTS_ON_ANSWER, RESTS_ON_EDIT, RESTS_ON_UNREAD, E1_TRUNCATED, E2_STRAY_CLOSE, E3_WRONG_CLOSE, E4_TOO_DEEP, E5_ODD_MAP, E6_TAG_WITHOUT_ELEMENT, E7_MEMORY, AT_FIRST}
 
 -- an operation as it is printed: the number of its trace, a colon, and the place of its invocation
 abbrev pub operation_text : OpId → List ℕ
@@ -90,13 +92,19 @@ note_words (notes.NearField field) = NEAR_FIELD.now
 note_words (notes.Unread meant) = unread_words meant
 note_words notes.Unanswered = UNANSWERED.now
 note_words (notes.SilentWriter process) = SILENT_WRITER.now
-note_words (notes.SameMoment event) = SAME_MOMENT.now
-note_words notes.OutOfProportion = OUT_OF_PROPORTION.now
+note_words (notes.SameMoment event ties) = SAME_MOMENT.now
+note_words (notes.OutOfProportion many) = OUT_OF_PROPORTION.now
 note_words (notes.Rests operation) = RESTS.now
 note_words (notes.RestsOnEdit operation) = RESTS_ON_EDIT.now
+note_words (notes.RestsOnAnswer operation) = RESTS_ON_ANSWER.now
 note_words (notes.RestsOnUnread operation) = RESTS_ON_UNREAD.now
 
--- what the words for a note end with: a field, a process, an event or an operation
+-- the field of moments under which no event has the moment of an earlier one
+abbrev pub better_text : MomentField → List ℕ
+better_text Index = codes ". None has under :index: try --moment index"
+better_text Time = codes ". None has under :time: try --moment time"
+
+-- what the words for a note end with: a field, a process, a number or an operation
 abbrev pub noted_text : Note → List ℕ
 noted_text notes.Skipped = []
 noted_text notes.NoOperation = []
@@ -106,10 +114,11 @@ noted_text (notes.NearField field) = field_word field
 noted_text (notes.Unread meant) = option_map_or tower_word meant []
 noted_text notes.Unanswered = []
 noted_text (notes.SilentWriter process) = signed_decimal process
-noted_text (notes.SameMoment event) = decimal event
-noted_text notes.OutOfProportion = []
+noted_text (notes.SameMoment event ties) = decimal ties.many ++ option_map_or better_text ties.better []
+noted_text (notes.OutOfProportion many) = decimal many
 noted_text (notes.Rests operation) = operation_text operation
 noted_text (notes.RestsOnEdit operation) = operation_text operation
+noted_text (notes.RestsOnAnswer operation) = operation_text operation
 noted_text (notes.RestsOnUnread operation) = operation_text operation
 
 -- what has a value, as it is printed: an operation, or the register at first

@@ -6,7 +6,7 @@ ghost use Rattle.lint.specs.Idle.{has_event_of, is_silent};
 ghost use Rattle.lint.specs.Grade.{finding_code, code_of_note, grade_of, grade_word, has_denied, has_grade, has_note, is_of_code, is_of_grade, lint_status};
 
 use intervals::OpId;
-use jepsen_form::FormField;
+use jepsen_form::{FormField, MomentField};
 use logs::{BreakCode, Code};
 use places::Location;
 use std::alloc::AllocError;
@@ -45,18 +45,27 @@ pub enum Note {
     Unanswered,
     /// No trace has an event of this process, which is claimed to write an atomic register.
     SilentWriter(i64),
-    /// An earlier event of the trace, of this number, has the same moment.
-    SameMoment(u64),
-    /// A moment is at least 1000 times the one before it and the one after it.
-    OutOfProportion,
+    /// Events have the moments of earlier ones of the trace: the number of the event before the first of them.
+    SameMoment(u64, Ties),
+    /// Moments are at least 1000 times the ones before and after them: so many.
+    OutOfProportion(u64),
     /// An element is left out that writes the value which this operation read or wrote; the operation shows that its
     /// register fails.
     Rests(OpId),
-    /// An answer or an edit of this operation is left out, which shows that its register fails; or a claim of that
-    /// register is.
+    /// An edit of this operation is left out, which shows that its register fails; or a claim of that register is.
     RestsOnEdit(OpId),
+    /// An answer of this operation is left out, which shows that its register fails.
+    RestsOnAnswer(OpId),
     /// An element is left out whose value cannot be read, and this operation shows that its register fails.
     RestsOnUnread(OpId),
+}
+
+/// How many events of a trace have the moments of earlier ones, and the field under which none has, if there is such a
+/// field.
+#[derive(Clone, Copy)]
+pub struct Ties {
+    pub many: u64,
+    pub better: Option<MomentField>,
 }
 
 /// How grave a finding is.
@@ -147,8 +156,11 @@ impl Note {
             Note::Unread(_) => "L4",
             Note::Unanswered => "L5",
             Note::SilentWriter(_) => "L6",
-            Note::SameMoment(_) | Note::OutOfProportion => "L7",
-            Note::Rests(_) | Note::RestsOnEdit(_) | Note::RestsOnUnread(_) => "L8",
+            Note::SameMoment(..) | Note::OutOfProportion(_) => "L7",
+            Note::Rests(_)
+            | Note::RestsOnEdit(_)
+            | Note::RestsOnAnswer(_)
+            | Note::RestsOnUnread(_) => "L8",
         }
     }
 }

@@ -251,10 +251,32 @@ fn push_noted(
         write!(text, "  ({}:{event})", case.trace)?;
     }
     push_gap(text, case.width)?;
-    push_met(text, case, beside(case.trace, note))?;
+    let other = beside(case.trace, note);
+    if is_below(case, other) {
+        push_noted_mark(text, case, note)?;
+        return push_met(text, case, other);
+    }
+    push_met(text, case, other)?;
+    push_noted_mark(text, case, note)
+}
+
+fn push_noted_mark(text: &mut String, case: &Case, note: &Note) -> Result<(), AllocError> {
     push_marked(text, case, "")?;
     push_label(text, note)?;
     text.push_str("\n")
+}
+
+/// Whether the invocation of this operation is below the finding, in its file.
+fn is_below(case: &Case, id: Option<OpId>) -> bool {
+    let Some(id) = id else {
+        return false;
+    };
+    match invocation_of(case.view, &id) {
+        Some((_, spot)) => {
+            id.feeder as usize == case.trace && spot.start > case.finding.spot.start
+        }
+        None => false,
+    }
 }
 
 /// What becomes of what is noted, or what may have been meant.
@@ -272,13 +294,12 @@ fn label_of(note: &Note) -> &'static str {
         Note::Skipped => " skipped",
         Note::NoValue => " taken as nil",
         Note::Unanswered => " never answered",
-        Note::Rests(_) | Note::RestsOnEdit(_) | Note::RestsOnUnread(_) => {
-            " left out, and the verdict rests on it"
-        }
+        Note::Rests(_) | Note::RestsOnEdit(_) | Note::RestsOnAnswer(_) | Note::RestsOnUnread(_) =>
+            " left out, and the verdict rests on it",
         Note::Unused => " no operation",
         Note::SilentWriter(_) => " no event",
-        Note::SameMoment(_) => " the same moment",
-        Note::OutOfProportion => " out of proportion",
+        Note::SameMoment(..) => " the same moment, for the first time",
+        Note::OutOfProportion(_) => " out of proportion, for the first time",
         Note::NoOperation => " taken as it stands",
     }
 }
@@ -298,12 +319,15 @@ fn push_file(text: &mut String, case: &Case) -> Result<(), AllocError> {
 /// The other event or operation that a note speaks of.
 fn beside(trace: usize, note: &Note) -> Option<OpId> {
     match (note, u32::try_from(trace)) {
-        (Note::SameMoment(event), Ok(feeder)) => Some(OpId {
+        (Note::SameMoment(event, _), Ok(feeder)) => Some(OpId {
             feeder,
             event: *event,
         }),
         (
-            Note::Rests(operation) | Note::RestsOnEdit(operation) | Note::RestsOnUnread(operation),
+            Note::Rests(operation)
+            | Note::RestsOnEdit(operation)
+            | Note::RestsOnAnswer(operation)
+            | Note::RestsOnUnread(operation),
             _,
         ) => Some(*operation),
         _ => None,

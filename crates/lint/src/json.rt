@@ -122,10 +122,11 @@ fn name_of_note(note: &Note) -> &'static str {
         Note::Unread(_) => "Unread",
         Note::Unanswered => "Unanswered",
         Note::SilentWriter(_) => "SilentWriter",
-        Note::SameMoment(_) => "SameMoment",
-        Note::OutOfProportion => "OutOfProportion",
+        Note::SameMoment(..) => "SameMoment",
+        Note::OutOfProportion(_) => "OutOfProportion",
         Note::Rests(_) => "Rests",
         Note::RestsOnEdit(_) => "RestsOnEdit",
+        Note::RestsOnAnswer(_) => "RestsOnAnswer",
         Note::RestsOnUnread(_) => "RestsOnUnread",
     }
 }

@@ -43,7 +43,7 @@ mod tally;
 mod tower;
 
 pub use find::lint_traces;
-pub use finding::{Amiss, Findings, Grade, Note, Problem, TraceFindings};
+pub use finding::{Amiss, Findings, Grade, Note, Problem, Ties, TraceFindings};
 pub use print::{Format, push_findings};
 pub use source::SourceText;
 pub use tower::{lint_fault, lint_tower};

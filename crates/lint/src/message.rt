@@ -1,13 +1,15 @@
 //! The messages that say what is amiss.
 
-ghost use Rattle.std.specs.Prelude.{◌≡◌, ◌++◌, OnOk, string_bytes};
-ghost use Rattle.lint.specs.Message.{details_of, field_word, field_text, value_holder_text, operation_text, message_of, note_words, edn_words, noted_text, operations_text, tower_text, tower_word, words_of};
+ghost use Rattle.std.specs.Prelude.{◌≡◌, ◌++◌, [], OnOk, string_bytes};
+ghost use Rattle.std.specs.Fmt.{decimal};
+ghost use Rattle.std.specs.Option.{option_map_or};
+ghost use Rattle.lint.specs.Message.{better_text, details_of, field_word, field_text, value_holder_text, operation_text, message_of, note_words, edn_words, noted_text, operations_text, tower_text, tower_word, words_of};
 
-use crate::finding::{Amiss, Note};
+use crate::finding::{Amiss, Note, Ties};
 use crate::sentences::*;
 use edn_reader::EdnFault;
 use intervals::{Holder, OpId, Refusal};
-use jepsen_form::{FormFault, FormField};
+use jepsen_form::{FormFault, FormField, MomentField};
 use logs::Code;
 use std::alloc::AllocError;
 use texts::message_of_code;
@@ -43,10 +45,11 @@ fn note_words(note: &Note) -> &'static str
         Note::Unread(None) => UNREAD,
         Note::Unanswered => UNANSWERED,
         Note::SilentWriter(_) => SILENT_WRITER,
-        Note::SameMoment(_) => SAME_MOMENT,
-        Note::OutOfProportion => OUT_OF_PROPORTION,
+        Note::SameMoment(..) => SAME_MOMENT,
+        Note::OutOfProportion(_) => OUT_OF_PROPORTION,
         Note::Rests(_) => RESTS,
         Note::RestsOnEdit(_) => RESTS_ON_EDIT,
+        Note::RestsOnAnswer(_) => RESTS_ON_ANSWER,
         Note::RestsOnUnread(_) => RESTS_ON_UNREAD,
     }
 }
@@ -71,17 +74,37 @@ fn push_noted(text: &mut String, note: &Note) -> Result<(), AllocError>
         Note::NearField(field) => text.push_str(field_word(*field)),
         Note::Unread(Some(field)) => text.push_str(tower_word(*field)),
         Note::SilentWriter(process) => write!(text, "{process}"),
-        Note::SameMoment(event) => write!(text, "{event}"),
+        Note::SameMoment(_, ties) => push_ties(text, ties),
+        Note::OutOfProportion(many) => write!(text, "{many}"),
         Note::Rests(operation) => push_id(text, *operation),
         Note::RestsOnEdit(operation) => push_id(text, *operation),
+        Note::RestsOnAnswer(operation) => push_id(text, *operation),
         Note::RestsOnUnread(operation) => push_id(text, *operation),
         Note::Unread(None)
         | Note::Skipped
         | Note::NoOperation
         | Note::Unused
         | Note::NoValue
-        | Note::Unanswered
-        | Note::OutOfProportion => Ok(()),
+        | Note::Unanswered => Ok(()),
+    }
+}
+
+fn push_ties(text: &mut String, ties: &Ties) -> Result<(), AllocError>
+    ensures { OnOk result (string_bytes text.new ≡ string_bytes text.old ++ decimal ties.now.many ++ option_map_or better_text ties.now.better []) }
+{
+    write!(text, "{}", ties.many)?;
+    match ties.better {
+        Some(field) => text.push_str(better_text(field)),
+        None => Ok(()),
+    }
+}
+
+fn better_text(field: MomentField) -> &'static str
+    ensures { result.now ≡ better_text field }
+{
+    match field {
+        MomentField::Index => ". None has under :index: try --moment index",
+        MomentField::Time => ". None has under :time: try --moment time",
     }
 }
 

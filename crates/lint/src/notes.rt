@@ -1,6 +1,6 @@
 //! What is taken of a trace as it is, and may not be meant. Nothing is left out for it.
 
-use crate::finding::{Amiss, Note, Problem};
+use crate::finding::{Amiss, Note, Problem, Ties};
 use crate::nearest::{is_absent, meant_by};
 use crate::suspect::Suspects;
 use edn_reader::{Element, Field, MapView};
@@ -39,10 +39,37 @@ struct TraceSoFar<'a> {
     unanswered: BTreeMap<i64, u64>,
     /// The first event of each moment.
     moments: BTreeMap<u64, u64>,
+    /// The events that have the moments of earlier ones.
+    ties: First,
     /// The last event that has a moment.
     last: Option<Timed>,
+    /// The events whose moments are out of proportion.
+    unfit: First,
     invoked: bool,
     noted: Noted,
+}
+
+/// Events of which the same is so: how many, and the first of them, by number, with the number of another event.
+#[derive(Clone, Copy)]
+struct First {
+    many: u64,
+    first: Option<(u64, u64)>,
+}
+
+impl First {
+    fn none() -> First {
+        First {
+            many: 0,
+            first: None,
+        }
+    }
+
+    fn add(&mut self, number: u64, other: u64) {
+        self.many = self.many.saturating_add(1);
+        if self.first.is_none() {
+            self.first = Some((number, other));
+        }
+    }
 }
 
 /// An event that has a moment: its own, and the one before it (0 where there is none).
@@ -84,6 +111,7 @@ pub fn notes_of(
         };
         watch.look_at(context, &mut cursor, &seen)?;
     }
+    watch.note_ties(context, found)?;
     watch.end(text)
 }
 
@@ -110,7 +138,9 @@ impl<'a> TraceSoFar<'a> {
             spots,
             unanswered: BTreeMap::new(alloc),
             moments: BTreeMap::new(alloc),
+            ties: First::none(),
             last: None,
+            unfit: First::none(),
             invoked: false,
             noted: Noted {
                 notes: Vec::new(alloc),
@@ -144,7 +174,10 @@ impl<'a> TraceSoFar<'a> {
     ) -> Result<(), AllocError> {
         self.noted.unfinished.push(false)?;
         if let Some(left_out) = seen.refused {
-            if let Some(note) = context.suspects.note_of(&left_out.about) {
+            if let Some(note) = context
+                .suspects
+                .note_of(&left_out.about, is_edit(seen.element))
+            {
                 self.note(seen.number, note)?;
             }
         }
@@ -201,7 +234,7 @@ impl<'a> TraceSoFar<'a> {
         }
         if let Some(moment) = event.moment {
             self.look_at_moment(moment.0, seen.number)?;
-            self.look_at_last(moment.0, seen.number)?;
+            self.look_at_last(moment.0, seen.number);
         }
         if is_of_pairing(&seen.refused) {
             return Ok(());
@@ -236,19 +269,20 @@ impl<'a> TraceSoFar<'a> {
     }
 
     fn look_at_moment(&mut self, moment: u64, number: u64) -> Result<(), AllocError> {
-        if let Some(first) = self.moments.get(&moment).copied() {
-            return self.note(number, Note::SameMoment(first));
+        if let Some(earlier) = self.moments.get(&moment).copied() {
+            self.ties.add(number, earlier);
+            return Ok(());
         }
         self.moments.insert(moment, number)?;
         Ok(())
     }
 
-    /// Notes the last moment if it is out of proportion to the one before it and to this one.
-    fn look_at_last(&mut self, moment: u64, number: u64) -> Result<(), AllocError> {
+    /// Counts the last moment if it is out of proportion to the one before it and to this one.
+    fn look_at_last(&mut self, moment: u64, number: u64) {
         let mut before = 0;
         if let Some(last) = self.last {
             if is_out_of_proportion(last.before, last.moment, moment) {
-                self.note(last.number, Note::OutOfProportion)?;
+                self.unfit.add(last.number, number);
             }
             before = last.moment;
         }
@@ -257,7 +291,22 @@ impl<'a> TraceSoFar<'a> {
             moment,
             number,
         });
-        Ok(())
+    }
+
+    /// Notes how many events have the moments of earlier ones, and how many moments are out of proportion, each of the
+    /// first of them.
+    fn note_ties(&mut self, context: &Context, found: &Elements) -> Result<(), AllocError> {
+        if let Some((number, earlier)) = self.ties.first {
+            let ties = Ties {
+                many: self.ties.many,
+                better: better_field(context, found)?,
+            };
+            self.note(number, Note::SameMoment(earlier, ties))?;
+        }
+        match self.unfit.first {
+            Some((number, _)) => self.note(number, Note::OutOfProportion(self.unfit.many)),
+            None => Ok(()),
+        }
     }
 
     /// The notes, with those of the end of a trace.
@@ -290,6 +339,42 @@ impl<'a> TraceSoFar<'a> {
     }
 }
 
+/// The other field of moments, where each event has a moment of its own there.
+fn better_field(context: &Context, found: &Elements) -> Result<Option<MomentField>, AllocError> {
+    let other = match context.field {
+        MomentField::Index => MomentField::Time,
+        MomentField::Time => MomentField::Index,
+    };
+    let mut seen = BTreeSet::new(context.alloc);
+    for element in &found.elements {
+        if let Some(_) = moment_in(context, context.field, element) {
+            let Some(moment) = moment_in(context, other, element) else {
+                return Ok(None);
+            };
+            if !seen.insert(moment)? {
+                return Ok(None);
+            }
+        }
+    }
+    Ok(Some(other))
+}
+
+/// The moment of an event by this field, where the element is an event that has one.
+fn moment_in(context: &Context, field: MomentField, element: &Element) -> Option<u64> {
+    match read_item(*element, field, context.tower) {
+        Ok(Item::Event(event)) => Some(event.moment?.0),
+        _ => None,
+    }
+}
+
+/// Whether an element has the field `:edit`.
+fn is_edit(element: &Element) -> bool {
+    match element.as_map() {
+        Some(map) => !is_absent(&map.field(b":edit")),
+        None => false,
+    }
+}
+
 /// Whether a moment is at least 1000 times the one before it and the one after it, neither of which is 0.
 fn is_out_of_proportion(before: u64, moment: u64, after: u64) -> bool {
     before != 0 && after != 0 && moment / 1000 >= before.max(after)
@@ -309,8 +394,11 @@ fn is_of_pairing(refused: &Option<LeftOut>) -> bool {
 /// Whether a note says that a failure rests on an element that was left out: these come first.
 pub fn rests(problem: &Problem) -> bool {
     match &problem.what {
-        Amiss::Noted(_, note) => note.code() == "L8",
-        Amiss::Refused(..) | Amiss::Broken(_) | Amiss::Tower(_) => false,
+        Amiss::Noted(
+            _,
+            Note::Rests(_) | Note::RestsOnEdit(_) | Note::RestsOnAnswer(_) | Note::RestsOnUnread(_),
+        ) => true,
+        Amiss::Noted(..) | Amiss::Refused(..) | Amiss::Broken(_) | Amiss::Tower(_) => false,
     }
 }
 

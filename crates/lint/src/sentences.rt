@@ -18,13 +18,16 @@ pub const UNANSWERED: &str = "an invocation that has no answer";
 
 pub const SILENT_WRITER: &str = "a writer of an atomic register that has no event: process ";
 
-pub const SAME_MOMENT: &str = "a moment that another event of the trace has: number ";
+pub const SAME_MOMENT: &str = "events that have the moment of an earlier one of the trace: ";
 
-pub const OUT_OF_PROPORTION: &str = "a moment at least 1000 times the ones before and after it";
+pub const OUT_OF_PROPORTION: &str =
+    "moments that are at least 1000 times those before and after them: ";
 
 pub const RESTS: &str = "a refused element with the value for which its register fails: that of ";
 
 pub const RESTS_ON_EDIT: &str = "a refused edit of a register that fails: shown by ";
+
+pub const RESTS_ON_ANSWER: &str = "a refused answer of a register that fails: shown by ";
 
 pub const RESTS_ON_UNREAD: &str =
     "a refused element of a register that fails, whose value cannot be read: shown by ";

@@ -1,11 +1,10 @@
 //! What the failures of registers rest on, among the elements that were left out.
 
 use crate::finding::Note;
-use intervals::{OpId, RegId, Value};
-use jepsen_form::Written;
+use intervals::{OpId, RegId};
 use pairing::About;
 use register_book::Witness;
-use report::rests_on;
+use report::{rests_on, would_write};
 use shards::Closed;
 use std::alloc::{AllocError, Global};
 use tower_file::Tower;
@@ -33,15 +32,16 @@ impl<'t> Suspects<'t> {
         Ok(Suspects { witnesses })
     }
 
-    /// The note on an element that was left out, where the failure of its register rests on it.
-    pub fn note_of(&self, about: &About) -> Option<Note> {
+    /// The note on an element that was left out, where the failure of its register rests on it. An edit is one that has
+    /// the field `:edit`.
+    pub fn note_of(&self, about: &About, is_edit: bool) -> Option<Note> {
         let register = about.register?;
         let slot = self.witnesses.get(register.0 as usize)?;
         if !rests_on(slot, about) {
             return None;
         }
         match slot {
-            Some(witness) => note_beside(witness, about),
+            Some(witness) => note_beside(witness, about, is_edit),
             None => None,
         }
     }
@@ -49,15 +49,15 @@ impl<'t> Suspects<'t> {
 
 /// The note on an element on which this failure rests, with the operation that it touches, a read before a write, or else
 /// with the first one that shows the failure.
-fn note_beside(witness: &Witness, about: &About) -> Option<Note> {
+fn note_beside(witness: &Witness, about: &About, is_edit: bool) -> Option<Note> {
     let mut first = None;
     let mut write = None;
     for slot in &witness.roles() {
         if let Some(one) = slot {
             if about.operation == Some(one.op.id) {
-                return Some(Note::RestsOnEdit(one.op.id));
+                return Some(note_on(one.op.id, is_edit));
             }
-            if is_written(about.written, one.op.value()) {
+            if would_write(one.op.value(), about.written) {
                 if !one.op.is_write() {
                     return Some(Note::Rests(one.op.id));
                 }
@@ -74,10 +74,11 @@ fn note_beside(witness: &Witness, about: &About) -> Option<Note> {
     }
 }
 
-fn is_written(written: Written, value: Value) -> bool {
-    match written {
-        Written::Known(written) => written == value,
-        Written::Nothing | Written::Unread => false,
+fn note_on(id: OpId, is_edit: bool) -> Note {
+    if is_edit {
+        Note::RestsOnEdit(id)
+    } else {
+        Note::RestsOnAnswer(id)
     }
 }
 

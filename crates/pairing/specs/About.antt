@@ -52,11 +52,11 @@ about_edit register (edits.Claim kind) = record { register = Some register; writ
 -- ---- a refused item
 
 -- the process of an event of this stage, where it is an answer
-abbrev pub process_of : Stage → ℤ → Option ℤ
-process_of Invoke process = None
-process_of Ok process = Some process
-process_of Fail process = Some process
-process_of Info process = Some process
+abbrev pub process_if_answer : Stage → ℤ → Option ℤ
+process_if_answer Invoke process = None
+process_if_answer Ok process = Some process
+process_if_answer Fail process = Some process
+process_if_answer Info process = Some process
 
 -- what an event writes: the value of a write that is invoked or answered by `:ok`, else nothing
 abbrev pub written_of : Stage → Action → Value → Written
@@ -69,7 +69,7 @@ written_of Info Write value = Nothing
 -- what an item says, as the gist of an element; a question says nothing here
 abbrev pub gist_of_item : Item → Gist
 gist_of_item (items.Event event) = record {
-  answers = process_of event.answer event.process;
+  answers = process_if_answer event.answer event.process;
   of = None;
   register = event.register;
   written = written_of event.answer event.action event.value;

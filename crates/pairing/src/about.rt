@@ -1,7 +1,7 @@
 //! What a refused element is about.
 
 ghost use Rattle.std.specs.Prelude.{◌≡◌};
-ghost use Rattle.pairing.specs.About.{about_by, about_edit, gist_of_item, target_beside, written_of, written_of_act, written_of_change, process_of};
+ghost use Rattle.pairing.specs.About.{about_by, about_edit, gist_of_item, target_beside, written_of, written_of_act, written_of_change, process_if_answer};
 
 use crate::invocation::Invocation;
 use crate::step::id;
@@ -71,7 +71,7 @@ pub fn gist_of_item(item: &Item) -> Gist
     };
     match item {
         Item::Event(event) => {
-            gist.answers = process_of(event);
+            gist.answers = process_if_answer(event);
             gist.register = event.register;
             gist.written = written_of(event.answer, event.action, event.value);
         }
@@ -90,8 +90,8 @@ pub fn gist_of_item(item: &Item) -> Gist
 }
 
 /// The process, where the event is an answer.
-fn process_of(event: &Event) -> Option<i64>
-    ensures { result ≡ process_of event.now.answer event.now.process }
+fn process_if_answer(event: &Event) -> Option<i64>
+    ensures { result ≡ process_if_answer event.now.answer event.now.process }
 {
     match event.answer {
         Stage::Invoke => None,

@@ -36,6 +36,7 @@ use Rattle.register_book.specs.declared.fault.Witness.TheVariants.{Wrong, Unwrit
 use Rattle.register_book.specs.Fault.{ops_in_roles, roles_of, side_holder}
 use Rattle.places.specs.declared.location.Location.{Location}
 use Rattle.places.specs.Spots.{PlacesModel, line_of_byte, located}
+use Rattle.report.specs.declared.few.Least.{Least}
 use Rattle.report.specs.declared.doubt.Doubt.{Doubt}
 use Rattle.report.specs.declared.finding.Finding.{Finding}
 use Rattle.report.specs.Doubt.{left_out_at, rests_at}
@@ -320,9 +321,9 @@ head_is tower registers traces moments is =
     (field_is (codes "registers") refl (number (decimal registers)) (whole_number registers)
     (more_fields (codes "traces") refl (listed (text_values traces)) (field_is (codes "moment") refl (word moments) is no_field)))))))
 
-end_is : {depth : ℕ} (status : ℕ) (totals : Totals) → IsRecord (suc depth) (end_of_records status totals)
+end_is : {depth : ℕ} (status : ℕ) (totals : Totals) (least : Least) → IsRecord (suc depth) (end_of_records status totals least)
 unfolding end_of_records type_symbols number_symbols
-end_is status totals =
+end_is status totals least =
     between
     (field_is (codes "t") refl (word (codes "end")) refl
     (field_is (codes "status") refl (number (decimal status)) (whole_number status)
@@ -330,7 +331,9 @@ end_is status totals =
     (field_is (codes "failing") refl (number (decimal totals.failing)) (whole_number totals.failing)
     (field_is (codes "culprits") refl (number (decimal totals.culprits)) (whole_number totals.culprits)
     (field_is (codes "operations") refl (number (decimal totals.operations)) (whole_number totals.operations)
-    (field_is (codes "refused") refl (number (decimal totals.refused)) (whole_number totals.refused) (field_is (codes "broken") refl (number (decimal totals.broken)) (whole_number totals.broken) no_field))))))))
+    (field_is (codes "refused") refl (number (decimal totals.refused)) (whole_number totals.refused)
+    (field_is (codes "broken") refl (number (decimal totals.broken)) (whole_number totals.broken)
+    (field_is (codes "least") refl (number (decimal least.all)) (whole_number least.all) (field_is (codes "least_each") refl (number (decimal least.each)) (whole_number least.each) no_field))))))))))
 
 -- all records of a run
 
@@ -387,7 +390,7 @@ asked_are registers (Some found) =
 run_is : (places : PlacesModel) (names : RunNames) → is_record_word names.moments ≡ true → (only : Bool) (status : ℕ) (tower : TowerModel) (findings : List Finding) (doubts : List Doubt) (allowed : List (List Allowed)) (logs : List Log) (asked : Option (RegId × Option (List OpId))) → All (IsRecord 4) (records_of places names only status tower findings doubts allowed logs asked)
 run_is places names is only status tower findings doubts allowed logs asked =
     let first = head_record names.tower (length tower.registers) names.traces names.moments in
-    let last = end_of_records status (totals_of tower findings logs) in
+    let last = end_of_records status (totals_of tower findings logs) names.least in
     let of_registers = registers_records places tower (fails_of findings) doubts only 0 findings allowed in
     let of_logs = logs_records places tower.registers 0 logs in
     let of_asked = asked_records tower.registers asked in
@@ -397,7 +400,7 @@ run_is places names is only status tower findings doubts allowed logs asked =
     (All-append (IsRecord 4) (of_registers ++ of_logs) of_asked
     (All-append (IsRecord 4) of_registers of_logs (registers_are places tower (fails_of findings) doubts only 0 findings allowed) (logs_are places tower.registers 0 logs))
     (asked_are tower.registers asked))
-    (one_record last (end_is status (totals_of tower findings logs))))
+    (one_record last (end_is status (totals_of tower findings logs) names.least)))
 
 pub each_is_record : (names : RunNames) → is_record_word names.moments ≡ true → (only : Bool) (status : ℕ) (tower : TowerModel) (closed : List ClosedShard) (logs : List Log) (order : Option RegId) (texts : List (List ℕ)) (records : List (List Symbol)) → AreRecordsOfRun names only status tower closed logs order texts records → All (IsRecord 4) records
 each_is_record names is only status tower closed logs order texts records are =

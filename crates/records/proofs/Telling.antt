@@ -30,6 +30,7 @@ use Rattle.register_book.specs.declared.fault.Fault.TheVariants as faults
 use Rattle.register_book.specs.declared.fault.Witness.{Witness}
 use Rattle.register_book.specs.declared.fault.Witness.TheVariants.{Wrong, Unwritten, Split, Early, Crossing}
 use Rattle.register_book.specs.Fault.{ids_of, ops_in_roles, roles_of, side_holder}
+use Rattle.report.specs.declared.few.Least.{Least}
 use Rattle.report.specs.declared.doubt.Doubt.{Doubt}
 use Rattle.report.specs.declared.finding.Finding.{Finding}
 use Rattle.report.specs.Doubt.{left_out_at, rests_at}
@@ -371,23 +372,23 @@ order_of_no_register places n level name finding culprit allowed left_out rests_
 -- a word that says nothing of the first and the last record
 record SaysMiddle (f : List Symbol → List ℕ) : Type 0 where
   first : (tower : List ℕ) (registers : ℕ) (traces : List (List ℕ)) (moments : List ℕ) → f (head_record tower registers traces moments) ≡ []
-  last : (status : ℕ) (totals : Totals) → f (end_of_records status totals) ≡ []
+  last : (status : ℕ) (totals : Totals) (least : Least) → f (end_of_records status totals least) ≡ []
 
 section_of_middle : SaysMiddle told_section
 unfolding head_record end_of_records type_symbols
-section_of_middle = record { first = λ tower registers traces moments. refl; last = λ status totals. refl }
+section_of_middle = record { first = λ tower registers traces moments. refl; last = λ status totals least. refl }
 
 culprit_of_middle : SaysMiddle told_culprit
 unfolding head_record end_of_records type_symbols
-culprit_of_middle = record { first = λ tower registers traces moments. refl; last = λ status totals. refl }
+culprit_of_middle = record { first = λ tower registers traces moments. refl; last = λ status totals least. refl }
 
 note_of_middle : SaysMiddle told_note
 unfolding head_record end_of_records type_symbols
-note_of_middle = record { first = λ tower registers traces moments. refl; last = λ status totals. refl }
+note_of_middle = record { first = λ tower registers traces moments. refl; last = λ status totals least. refl }
 
 order_of_middle : SaysMiddle told_order
 unfolding head_record end_of_records type_symbols
-order_of_middle = record { first = λ tower registers traces moments. refl; last = λ status totals. refl }
+order_of_middle = record { first = λ tower registers traces moments. refl; last = λ status totals least. refl }
 
 -- the registers, by number
 
@@ -507,12 +508,12 @@ run_told : (places : PlacesModel) (names : RunNames) (status : ℕ) (tower : Tow
 run_told places names status tower findings doubts allowed logs asked many each =
     let failing = fails_of findings in
     let first = head_record names.tower (length tower.registers) names.traces names.moments in
-    let last = end_of_records status (totals_of tower findings logs) in
+    let last = end_of_records status (totals_of tower findings logs) names.least in
     let of_registers = registers_records places tower failing doubts false 0 findings allowed in
     let of_logs = logs_records places tower.registers 0 logs in
     let of_asked = asked_records tower.registers asked in
     let are = λ (k : ℕ). (let here : 0 + k ≡ k = omega arith in ap (λ (place : ℕ). slice_get tower.registers place) here) in
-    let parts = λ (f : List Symbol → List ℕ) (middle : SaysMiddle f). in_parts f first last of_registers of_logs of_asked (middle.first names.tower (length tower.registers) names.traces names.moments) (middle.last status (totals_of tower findings logs)) in
+    let parts = λ (f : List Symbol → List ℕ) (middle : SaysMiddle f). in_parts f first last of_registers of_logs of_asked (middle.first names.tower (length tower.registers) names.traces names.moments) (middle.last status (totals_of tower findings logs) names.least) in
     let sections : flat_map told_section (records_of places names false status tower findings doubts allowed logs asked) ≡ sections_text tower.registers findings =
     parts told_section section_of_middle
     ∙ only_first (flat_map told_section of_registers) (flat_map told_section of_logs) (flat_map told_section of_asked) (none_of_logs places told_section (section_of_no_note places) tower.registers 0 logs) (none_of_asked told_section section_of_no_order tower.registers asked)

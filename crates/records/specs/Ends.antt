@@ -1,6 +1,7 @@
 -- The first and the last record of a run, and the record of an order.
 use Rattle.std.specs.Prelude.{ℕ, List, [], ◌∷◌, ◌++◌, Option, Some, None, codes, map}
 use Rattle.intervals.specs.declared.operation.OpId.{OpId}
+use Rattle.report.specs.declared.few.Least.{Least}
 use Rattle.records.specs.declared.ends.Totals.{Totals}
 use Rattle.records.specs.Field.{list_symbols, number_symbols, text_field, type_symbols, word_symbols}
 use Rattle.records.specs.Symbol.{Symbol, begin_list, end_list, end_record, key, nothing, place, text}
@@ -43,6 +44,10 @@ abbrev pub trace_totals : Totals → List Symbol
 trace_totals totals =
     number_symbols (codes "operations") totals.operations ++ number_symbols (codes "refused") totals.refused ++ number_symbols (codes "broken") totals.broken
 
+-- how many operations have to stand, at least: in all registers together, and in each
+abbrev pub least_symbols : Least → List Symbol
+least_symbols least = number_symbols (codes "least") least.all ++ number_symbols (codes "least_each") least.each
+
 -- the last record
-unfoldable pub end_of_records : ℕ → Totals → List Symbol
-end_of_records status totals = type_symbols (codes "end") ++ verdict_totals status totals ++ trace_totals totals ++ end_record ∷ []
+unfoldable pub end_of_records : ℕ → Totals → Least → List Symbol
+end_of_records status totals least = type_symbols (codes "end") ++ verdict_totals status totals ++ trace_totals totals ++ least_symbols least ++ end_record ∷ []

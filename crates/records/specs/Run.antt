@@ -21,7 +21,9 @@ use Rattle.report.specs.Listing.{level_name}
 use Rattle.phrases.specs.Names.{register_name}
 use Rattle.report.specs.Order.{IsAsked}
 use Rattle.report.specs.Refused.{refused}
-use Rattle.report.specs.Summary.{is_broken, is_failing, operations}
+use Rattle.report.specs.Few.{operations}
+use Rattle.report.specs.declared.few.Least.{Least}
+use Rattle.report.specs.Summary.{is_broken, is_failing}
 use Rattle.records.specs.declared.allowed.Allowed.{Allowed}
 use Rattle.records.specs.declared.ends.Totals.{Totals}
 use Rattle.records.specs.declared.line.Notation.{Notation}
@@ -117,22 +119,24 @@ abbrev pub middle_records : PlacesModel → TowerModel → Bool → List Finding
 middle_records places tower only findings doubts allowed logs asked =
     registers_records places tower (fails_of findings) doubts only 0 findings allowed ++ logs_records places tower.registers 0 logs ++ asked_records tower.registers asked
 
--- what the first record of a run names: the tower file, the traces, and the field that has the moments
+-- what the first record of a run names, the tower file, the traces, and the field that has the moments; and the last:
+-- how many operations have to stand, at least
 pub record RunNames : Type 0 where
   pub tower : List ℕ
   pub traces : List (List ℕ)
   pub moments : List ℕ
+  pub least : Least
 
--- what the first record names, by the form in which records are written
+-- what the first and the last record name, by the form in which records are written
 abbrev pub names_of : Form → RunNames
-names_of form = record { tower = form.tower.now; traces = map (λ name. name.now) form.traces.now; moments = form.moments.now }
+names_of form = record { tower = form.tower.now; traces = map (λ name. name.now) form.traces.now; moments = form.moments.now; least = form.least }
 
 -- all records of a run
 abbrev pub records_of : PlacesModel → RunNames → Bool → ℕ → TowerModel → List Finding → List Doubt → List (List Allowed) → List Log → Option (RegId × Option (List OpId)) → List (List Symbol)
 records_of places names only status tower findings doubts allowed logs asked =
     (head_record names.tower (length tower.registers) names.traces names.moments ∷ [])
     ++ middle_records places tower only findings doubts allowed logs asked
-    ++ end_of_records status (totals_of tower findings logs) ∷ []
+    ++ end_of_records status (totals_of tower findings logs) names.least ∷ []
 
 -- the records of what is found of each register, of these logs, and of the order that is asked for, if any, with the
 -- lines and the bytes of elements in these texts
@@ -161,7 +165,7 @@ run_lines places notation names only status tower findings doubts allowed logs a
     ++ lines_of notation (registers_records places tower (fails_of findings) doubts only 0 findings allowed)
     ++ lines_of notation (logs_records places tower.registers 0 logs)
     ++ lines_of notation (asked_records tower.registers asked)
-    ++ record_line notation (end_of_records status (totals_of tower findings logs))
+    ++ record_line notation (end_of_records status (totals_of tower findings logs) names.least)
 
 -- the text has the records of a run, each on a line of its own
 pub record IsTextOfRecords (notation : Notation) (names : RunNames) (only : Bool) (status : ℕ) (tower : TowerModel) (closed : List ClosedShard) (logs : List Log) (order : Option RegId) (texts : List (List ℕ)) (text : List ℕ) : Type 0 where

@@ -1,12 +1,13 @@
 //! The first and the last record of a run, and the record of an order.
 
 ghost use Rattle.std.specs.Prelude.{◌≡◌, ◌++◌, ◌∷◌, [], OnOk, map, option_map};
-ghost use Rattle.records.specs.Ends.{end_of_records, format_symbols, head_record, ids_symbols, order_symbols, tower_symbols, trace_totals, traces_symbols, verdict_totals};
+ghost use Rattle.records.specs.Ends.{end_of_records, format_symbols, head_record, ids_symbols, least_symbols, order_symbols, tower_symbols, trace_totals, traces_symbols, verdict_totals};
 ghost use Rattle.records.specs.Symbol.{end_list, place, symbols_of, text};
 
 use crate::field::{add_list, add_number, add_text, add_type, add_word};
 use crate::token::RecordToken;
 use intervals::OpId;
+use report::Least;
 use std::alloc::AllocError;
 
 /// How many registers there are, fail and are to blame; how many operations stand; how many elements were refused, and
@@ -132,12 +133,14 @@ pub fn add_last<'a>(
     tokens: &mut Vec<RecordToken<'a>>,
     status: u64,
     totals: &Totals,
+    least: Least,
 ) -> Result<(), AllocError>
-    ensures { OnOk result (symbols_of tokens.new.items ≡ symbols_of tokens.old.items ++ end_of_records status totals.now) }
+    ensures { OnOk result (symbols_of tokens.new.items ≡ symbols_of tokens.old.items ++ end_of_records status totals.now least) }
 {
     add_type(tokens, "end")?;
     add_verdict_totals(tokens, status, totals)?;
     add_trace_totals(tokens, totals)?;
+    add_least(tokens, least)?;
     tokens.push(RecordToken::EndRecord)?;
     Ok(())
 }
@@ -164,4 +167,11 @@ fn add_trace_totals<'a>(
     add_number(tokens, "operations", totals.operations)?;
     add_number(tokens, "refused", totals.refused)?;
     add_number(tokens, "broken", totals.broken)
+}
+
+fn add_least<'a>(tokens: &mut Vec<RecordToken<'a>>, least: Least) -> Result<(), AllocError>
+    ensures { OnOk result (symbols_of tokens.new.items ≡ symbols_of tokens.old.items ++ least_symbols least) }
+{
+    add_number(tokens, "least", least.all)?;
+    add_number(tokens, "least_each", least.each)
 }

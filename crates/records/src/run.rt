@@ -27,7 +27,7 @@ use logs::{Broken, Line, Log, Run, What};
 use phrases::name_of;
 use places::Places;
 use report::{
-    Doubt, Finding, ReportFault, RunFindings, count_broken, count_failing, count_operations,
+    Doubt, Finding, Least, ReportFault, RunFindings, count_broken, count_failing, count_operations,
     count_refused, culprits_in, doubts_of, failing_of, find_all, is_culprit, level_name, order_of,
 };
 use shards::Closed;
@@ -50,6 +50,8 @@ pub struct Form<'a> {
     /// The register whose order has a record, where one is asked for.
     pub order: Option<RegId>,
     pub status: u8,
+    /// How many operations have to stand, at least.
+    pub least: Least,
 }
 
 /// Writes the records of a run over the registers of a tower, in one write and one flush. The run and the register whose
@@ -175,7 +177,7 @@ fn text_of(
     writer.push_registers(&mut text, findings, allowed)?;
     writer.push_logs(&mut text, findings.tower, &findings.run.logs)?;
     writer.push_asked(&mut text, findings.tower, &findings.run.closed, form.order)?;
-    writer.push_last(&mut text, form.status, &totals)?;
+    writer.push_last(&mut text, form, &totals)?;
     Ok(text)
 }
 
@@ -444,11 +446,11 @@ impl RecordWriter<'_, '_> {
         self.push(text, &tokens)
     }
 
-    fn push_last(self, text: &mut Vec<u8>, status: u8, totals: &Totals) -> Result<(), AllocError>
-        ensures { OnOk result (text.new.items ≡ text.old.items ++ record_line self.entry.notation (end_of_records status totals.now)) }
+    fn push_last(self, text: &mut Vec<u8>, form: &Form, totals: &Totals) -> Result<(), AllocError>
+        ensures { OnOk result (text.new.items ≡ text.old.items ++ record_line self.entry.notation (end_of_records form.now.status totals.now form.now.least)) }
     {
         let mut tokens = Vec::new(self.alloc);
-        add_last(&mut tokens, u64::from(status), totals)?;
+        add_last(&mut tokens, u64::from(form.status), totals, form.least)?;
         self.push(text, &tokens)
     }
 }

@@ -19,8 +19,8 @@ use Rattle.logs.specs.declared.log.Line.{Line}
 use Rattle.logs.specs.declared.log.Log.{Log}
 use Rattle.report.specs.declared.doubt.Doubt.{Doubt}
 use Rattle.report.specs.declared.finding.Finding.{Finding}
-use Rattle.report.specs.Doubt.{AreDoubts, Touches, RestsOn, is_about, is_of_operation, is_rested_on, is_unread, left_at, left_from, left_in, touches, touches_one, witness_at, writes}
-use Rattle.report.specs.Doubting.{AreNoted, touches_slot}
+use Rattle.report.specs.Doubt.{AreDoubts, Touches, RestsOn, is_about, is_of_operation, is_rested_on, is_unread, left_at, left_from, left_in, touches, touches_one, witness_at, would_write}
+use Rattle.report.specs.Doubting.{AreNotedSoFar, touches_slot}
 
 -- an element touches the operation of a slot where it touches one of the operations in slots
 pub any_slot : (about : About) (slots : List (Option InRole)) → list_any (touches_slot about) slots ≡ list_any (touches about) (ops_in_roles slots)
@@ -75,13 +75,13 @@ added_if f doubts number old new test more within is grows other =
 -- what is noted so far, with the lines that are left, is what is to be noted
 abbrev pub NotedLines : List Finding → List Doubt → ℕ → List Line → ℕ → ((About → Bool) → List (ℕ × ℕ)) → Type 0
 NotedLines findings doubts feeder lines index left =
-    (so_far : (About → Bool) → List (ℕ × ℕ)) × AreNoted findings doubts so_far
+    (so_far : (About → Bool) → List (ℕ × ℕ)) × AreNotedSoFar findings doubts so_far
     × ((test : About → Bool) → so_far test ++ flat_map (left_at test feeder) (drop index lines) ≡ left test ++ flat_map (left_at test feeder) lines)
 
 -- the step that notes a line keeps what is noted
 abbrev pub NotesLine : List Finding → List Doubt → List Doubt → ℕ → Line → Type 0
 NotesLine findings doubts new feeder line =
-    (left : (About → Bool) → List (ℕ × ℕ)) → AreNoted findings doubts left → AreNoted findings new (λ test. left test ++ left_at test feeder line)
+    (left : (About → Bool) → List (ℕ × ℕ)) → AreNotedSoFar findings doubts left → AreNotedSoFar findings new (λ test. left test ++ left_at test feeder line)
 
 line_more : (findings : List Finding) (doubts new : List Doubt) (feeder : ℕ) (lines : List Line) (index : ℕ) (d : Line) → index < length lines → NotesLine findings doubts new feeder (slice_index_or lines index d)
     → (left : (About → Bool) → List (ℕ × ℕ)) → NotedLines findings doubts feeder lines index left → NotedLines findings new feeder lines (index + 1) left
@@ -102,7 +102,7 @@ one_line_more findings doubts new feeder lines seen index d is within notes left
     (line_more findings doubts new feeder seen index d within notes left)
 
 -- what is noted is one list for each test, however it is written
-noted_as : (findings : List Finding) (doubts : List Doubt) (left other : (About → Bool) → List (ℕ × ℕ)) → ((test : About → Bool) → left test ≡ other test) → AreNoted findings doubts left → AreNoted findings doubts other
+noted_as : (findings : List Finding) (doubts : List Doubt) (left other : (About → Bool) → List (ℕ × ℕ)) → ((test : About → Bool) → left test ≡ other test) → AreNotedSoFar findings doubts left → AreNotedSoFar findings doubts other
 noted_as findings doubts left other same noted = record {
   many = noted.many;
   left_out = λ number within. noted.left_out number within ∙ same (is_about number);
@@ -110,7 +110,7 @@ noted_as findings doubts left other same noted = record {
 }
 
 pub all_lines : (findings : List Finding) (doubts : List Doubt) (feeder : ℕ) (lines seen : List Line) (index : ℕ) → seen ≡ lines → length seen ≤ index
-    → (left : (About → Bool) → List (ℕ × ℕ)) → NotedLines findings doubts feeder lines index left → AreNoted findings doubts (λ test. left test ++ flat_map (left_at test feeder) lines)
+    → (left : (About → Bool) → List (ℕ × ℕ)) → NotedLines findings doubts feeder lines index left → AreNotedSoFar findings doubts (λ test. left test ++ flat_map (left_at test feeder) lines)
 all_lines findings doubts feeder lines seen index is past left (so_far, noted, same) =
     let over : length lines ≤ index = omega (arith, ap length is, past) in
     noted_as findings doubts so_far (λ test. left test ++ flat_map (left_at test feeder) lines)
@@ -121,13 +121,13 @@ all_lines findings doubts feeder lines seen index is past left (so_far, noted, s
 -- what is noted so far, with the logs that are left, is what is to be noted
 abbrev pub NotedLogs : List Finding → List Doubt → List Log → ℕ → Type 0
 NotedLogs findings doubts logs feeder =
-    (so_far : (About → Bool) → List (ℕ × ℕ)) × AreNoted findings doubts so_far
+    (so_far : (About → Bool) → List (ℕ × ℕ)) × AreNotedSoFar findings doubts so_far
     × ((test : About → Bool) → so_far test ++ left_from test feeder (drop feeder logs) ≡ left_from test 0 logs)
 
 -- the step that notes a log keeps what is noted
 abbrev pub NotesLog : List Finding → List Doubt → List Doubt → ℕ → Log → Type 0
 NotesLog findings doubts new feeder log =
-    (left : (About → Bool) → List (ℕ × ℕ)) → AreNoted findings doubts left → AreNoted findings new (λ test. left test ++ left_in test feeder log)
+    (left : (About → Bool) → List (ℕ × ℕ)) → AreNotedSoFar findings doubts left → AreNotedSoFar findings new (λ test. left test ++ left_in test feeder log)
 
 pub one_log_more : (findings : List Finding) (doubts new : List Doubt) (logs : List Log) (feeder : ℕ) (d : Log) → feeder < length logs → NotesLog findings doubts new feeder (slice_index_or logs feeder d)
     → NotedLogs findings doubts logs feeder → NotedLogs findings new logs (feeder + 1)
@@ -156,7 +156,7 @@ decides_edited id (Some edited) = (
   (λ is. let one : edited ≡ id = cc in (Decides-same_id_is edited id).1 one),
 )
 
-decides_written : (value : Value) (written : Written) → Decides (writes value written) (written ≡ Known value)
+decides_written : (value : Value) (written : Written) → Decides (would_write value written) (written ≡ Known value)
 decides_written value Nothing = ((λ t. cc), (λ is. cc))
 decides_written value (Known written) = (
   (λ t. ap Known ((Decides-same_value written value).0 t)),
@@ -171,7 +171,7 @@ decides_unread Unread = ((λ t. refl), (λ is. refl))
 
 decides_touches : (about : About) (op : Op) → Decides (touches about op) (Touches about op)
 decides_touches about op =
-    Decides-or (is_of_operation op.id about.operation) (writes (value_of op.act) about.written) (decides_edited op.id about.operation) (decides_written (value_of op.act) about.written)
+    Decides-or (is_of_operation op.id about.operation) (would_write (value_of op.act) about.written) (decides_edited op.id about.operation) (decides_written (value_of op.act) about.written)
 
 -- the test of whether what some operations show rests on an element decides whether it does
 pub decides_rests : (ops : List Op) (about : About) → Decides (touches_one ops about) (RestsOn ops about)

@@ -13,3 +13,5 @@ pub mod Batches
 pub mod Refusals
 -- what is in doubt: the elements that were left out are noted of their registers
 pub mod Doubts
+-- the text of a summary
+mod Summaries

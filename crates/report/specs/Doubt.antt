@@ -21,10 +21,10 @@ use Rattle.report.specs.declared.finding.Finding.{Finding}
 -- ---- one element and one operation
 
 -- an element would have written this value, where it can be read
-abbrev pub writes : Value → Written → Bool
-writes value Nothing = false
-writes value (Known written) = same_value written value
-writes value Unread = false
+abbrev pub would_write : Value → Written → Bool
+would_write value Nothing = false
+would_write value (Known written) = same_value written value
+would_write value Unread = false
 
 -- an element would have written a value that cannot be read
 abbrev pub is_unread : Written → Bool
@@ -39,7 +39,7 @@ is_of_operation id (Some edited) = same_id edited id
 
 -- an element touches an operation: it answers or edits it, or it would have written the value that this read or wrote
 abbrev pub touches : About → Op → Bool
-touches about op = is_of_operation op.id about.operation || writes (value_of op.act) about.written
+touches about op = is_of_operation op.id about.operation || would_write (value_of op.act) about.written
 
 -- ---- one element and a failure
 
@@ -71,13 +71,13 @@ RestsOn ops about = (IsTrue about.claims ⊎ (about.written ≡ Unread)) ⊎ Any
 
 -- the place of an element that was left out, by the number of its trace and its place there, where the test holds of what
 -- it is about
-abbrev pub left_by : (About → Bool) → ℕ × ℕ → What → List (ℕ × ℕ)
-left_by test at (Refused left_out) = if test left_out.about then at ∷ [] else []
-left_by test at (Answered register answer) = []
+abbrev pub place_left : (About → Bool) → ℕ × ℕ → What → List (ℕ × ℕ)
+place_left test at (Refused left_out) = if test left_out.about then at ∷ [] else []
+place_left test at (Answered register answer) = []
 
 -- the same of a log line of the trace of this number
 abbrev pub left_at : (About → Bool) → ℕ → Line → List (ℕ × ℕ)
-left_at test feeder line = left_by test (feeder, line.event) line.what
+left_at test feeder line = place_left test (feeder, line.event) line.what
 
 -- the places of the elements of a trace that were left out and of which the test holds
 abbrev pub left_in : (About → Bool) → ℕ → Log → List (ℕ × ℕ)

@@ -1,12 +1,17 @@
--- What a summary says of the registers whose failures rest on elements that were left out.
-use Rattle.std.specs.Prelude.{ℕ, Bool, List, [], ◌∷◌, ◌++◌, flat_map, filter, length, take, Option, Some, None, is_some, codes, nat_eq, if◌then◌else◌}
+-- The registers whose failures rest on elements that were left out, and what a summary says of them.
+use Rattle.std.specs.Prelude.{◌≡◌, ◌&&◌, not, ℕ, Bool, List, [], ◌∷◌, ◌++◌, flat_map, filter, length, take, Option, Some, None, is_none, is_some, codes, nat_eq, if◌then◌else◌}
 use Rattle.std.specs.Option.{option_map_or}
-use Rattle.std.specs.List.{slice_get}
+use Rattle.std.specs.List.{list_any, range_with_len, slice_get}
 use Rattle.std.specs.Fmt.{decimal}
 use Rattle.intervals.specs.declared.operation.RegId.{RegId}
 use Rattle.tower_file.specs.Contents.{TowerModel, Register}
 use Rattle.phrases.specs.Names.{place_text, printed, register_name}
+use Rattle.shards.specs.Closing.{ClosedShard}
+use Rattle.logs.specs.declared.log.Log.{Log}
 use Rattle.report.specs.declared.doubt.Doubt.{Doubt}
+use Rattle.report.specs.declared.finding.Finding.{Finding}
+use Rattle.report.specs.Doubt.{AreDoubts, rests_at, witness_at}
+use Rattle.report.specs.Finding.{AreFindings}
 use Rattle.report.specs.Failing.{ids_of_tower, more_text}
 
 -- the first element on which the failure of a register rests, or none
@@ -16,6 +21,23 @@ first_rested doubts id = option_map_or (λ doubt. slice_get doubt.rests_on.items
 -- the failure of a register rests on an element that was left out
 abbrev pub is_doubted : List Doubt → RegId → Bool
 is_doubted doubts id = is_some (first_rested doubts id)
+
+-- the register of this number fails, and its failure rests on no element that was left out
+abbrev pub fails_for_sure : List Finding → List Doubt → ℕ → Bool
+fails_for_sure findings doubts number = is_some (witness_at findings number) && is_none (slice_get (rests_at doubts number) 0)
+
+-- of some register the failure rests on no element that was left out
+abbrev pub any_for_sure : List Finding → List Doubt → Bool
+any_for_sure findings doubts = list_any (fails_for_sure findings doubts) (range_with_len 0 (length findings))
+
+-- of each register that fails, if any, the failure rests on elements that were left out
+pub record AreAllInDoubt (tower : TowerModel) (closed : List ClosedShard) (logs : List Log) (all : Bool) : Type 0 where
+  pub findings : List Finding
+  pub many : length findings ≡ length tower.registers
+  pub found : AreFindings closed 0 findings
+  pub doubts : List Doubt
+  pub doubted : AreDoubts findings logs doubts
+  pub all_is : all ≡ not (any_for_sure findings doubts)
 
 -- all registers whose failures rest on elements that were left out, by number
 abbrev pub doubted_of : TowerModel → List Doubt → List RegId

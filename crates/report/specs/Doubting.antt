@@ -7,7 +7,7 @@ use Rattle.report.specs.declared.finding.Finding.{Finding}
 use Rattle.report.specs.Doubt.{is_about, is_rested_on, left_out_at, rests_at, touches, witness_at}
 
 -- of each register is noted which elements were left out, by a list of them for each test of what one is about
-pub record AreNoted (findings : List Finding) (doubts : List Doubt) (left : (About → Bool) → List (ℕ × ℕ)) : Type 0 where
+pub record AreNotedSoFar (findings : List Finding) (doubts : List Doubt) (left : (About → Bool) → List (ℕ × ℕ)) : Type 0 where
   pub many : length doubts ≡ length findings
   pub left_out : (number : ℕ) → number < length findings → left_out_at doubts number ≡ left (is_about number)
   pub rests_on : (number : ℕ) → number < length findings → rests_at doubts number ≡ left (is_rested_on number (witness_at findings number))

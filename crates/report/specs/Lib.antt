@@ -10,6 +10,7 @@ pub mod Report
 pub mod Counts
 pub mod Failing
 pub mod Refused
+pub mod Few
 pub mod Summary
 pub mod Doubt
 pub mod Doubted

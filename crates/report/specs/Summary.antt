@@ -1,5 +1,5 @@
 -- The text of a summary.
-use Rattle.std.specs.Prelude.{◌≡◌, ℕ, Bool, true, false, List, [], ◌∷◌, ◌++◌, ◌&&◌, flat_map, filter, length, take, is_some, is_none, codes, nat_eq, if◌then◌else◌, count_by, sum_by}
+use Rattle.std.specs.Prelude.{◌≡◌, ℕ, Bool, true, false, List, [], ◌∷◌, ◌++◌, ◌&&◌, flat_map, filter, length, take, is_some, is_none, codes, nat_eq, if◌then◌else◌, count_by}
 use Rattle.std.specs.Option.{option_map_or}
 use Rattle.std.specs.List.{range_with_len, slice_get}
 use Rattle.std.specs.Fmt.{decimal}
@@ -17,6 +17,8 @@ use Rattle.report.specs.Notes.{broken_line}
 use Rattle.report.specs.declared.doubt.Doubt.{Doubt}
 use Rattle.report.specs.Doubt.{AreDoubts}
 use Rattle.report.specs.Doubted.{doubted_text}
+use Rattle.report.specs.Few.{few_text, operations}
+use Rattle.report.specs.declared.few.Least.{Least}
 use Rattle.report.specs.Failing.{blamed_line, ids_of_tower, lines_text, more_text, other_line, others_of}
 use Rattle.report.specs.Refused.{refused, refused_text}
 
@@ -27,10 +29,6 @@ counted many word = decimal many ++ codes " " ++ word ++ (if nat_eq many 1 then 
 -- the register fails, by what is found of it
 abbrev pub is_failing : Finding → Bool
 is_failing finding = is_some finding.witness
-
--- how many operations stand in all registers together
-abbrev pub operations : List Finding → ℕ
-operations findings = sum_by (λ finding. finding.operations) findings
 
 -- the trace of this log broke
 abbrev pub is_broken : Log → Bool
@@ -150,17 +148,25 @@ abbrev pub broken_text : List Log → List ℕ
 broken_text logs =
     flat_map (break_line logs) (take 10 (broken_of logs)) ++ more_text (codes "and ") 10 (length (broken_of logs)) (codes " more" ++ 10 ∷ [])
 
--- the text of a summary: the first line, the registers that fail, those in doubt, those that hold, the refusals by code,
--- and what broke
-abbrev pub summary_text : TowerModel → List Finding → List Doubt → List Log → List ℕ
-summary_text tower findings doubts logs =
-    first_line tower findings (length (culprits_of tower findings)) logs ++ failing_text tower findings ++ doubted_text tower doubts ++ holding_text tower findings ++ refused_text logs ++ broken_text logs
+-- the lines below those of the registers: the refusals by code, what broke, and what is too few
+abbrev pub ends_text : Least → List Finding → List Log → List ℕ
+ends_text least findings logs = refused_text logs ++ broken_text logs ++ few_text least findings
 
--- the text is the summary of what is found of each register, and of these logs
-pub record IsSummary (tower : TowerModel) (closed : List ClosedShard) (logs : List Log) (text : List ℕ) : Type 0 where
+-- the first line, and the lines of the registers that fail, of those in doubt, and of those that hold
+abbrev pub registers_text : TowerModel → List Finding → List Doubt → List Log → List ℕ
+registers_text tower findings doubts logs =
+    first_line tower findings (length (culprits_of tower findings)) logs ++ failing_text tower findings ++ doubted_text tower doubts ++ holding_text tower findings
+
+-- the text of a summary: the registers, the refusals by code, what broke, and what is too few
+abbrev pub summary_text : TowerModel → Least → List Finding → List Doubt → List Log → List ℕ
+summary_text tower least findings doubts logs = registers_text tower findings doubts logs ++ ends_text least findings logs
+
+-- the text is the summary of what is found of each register, and of these logs, where at least so many operations have to
+-- stand
+pub record IsSummary (tower : TowerModel) (least : Least) (closed : List ClosedShard) (logs : List Log) (text : List ℕ) : Type 0 where
   pub findings : List Finding
   pub many : length findings ≡ length tower.registers
   pub found : AreFindings closed 0 findings
   pub doubts : List Doubt
   pub doubted : AreDoubts findings logs doubts
-  pub text_is : text ≡ summary_text tower findings doubts logs
+  pub text_is : text ≡ summary_text tower least findings doubts logs

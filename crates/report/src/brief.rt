@@ -5,13 +5,14 @@ ghost use Rattle.std.specs.Io.KnownBytes.{Appends};
 ghost use Rattle.report.specs.Culprit.{culprits_of};
 ghost use Rattle.report.specs.Doubted.{doubted_text};
 ghost use Rattle.report.specs.Finding.{IsOfTower};
-ghost use Rattle.report.specs.Summary.{IsSummary, amiss_text, culprit_count_text, breaks_text, break_line, breaks_at, broken_of, broken_text, counted, failed_text, failing_lines, failing_text, first_line, held_text, holding_text, holds_as, idle_count_text, idle_of, idle_text, is_broken, is_failing, is_idle, kind_text, kinds_text, name_text, names_text, operations, over_text, refusals_text, same_kind, summary_text};
+ghost use Rattle.report.specs.Summary.{IsSummary, amiss_text, culprit_count_text, breaks_text, break_line, breaks_at, broken_of, broken_text, counted, ends_text, failed_text, failing_lines, failing_text, first_line, held_text, holding_text, holds_as, idle_count_text, idle_of, idle_text, is_broken, is_failing, is_idle, kind_text, kinds_text, name_text, names_text, over_text, refusals_text, same_kind, summary_text};
 
 use crate::culprit::culprits_in;
 use crate::doubt::doubts_of;
 use crate::doubted::push_doubted;
 use crate::failing::{at_most, others_in, push_blamed, push_more, push_others};
 use crate::fault::ReportFault;
+use crate::few::{Least, count_operations, push_few};
 use crate::finding::{Finding, failing_of, find_all};
 use crate::findings::RunFindings;
 use crate::notes::push_broken;
@@ -27,25 +28,32 @@ use tower_file::Tower;
 /// How many registers without operations, and how many broken traces, are named.
 const NAMED: usize = 10;
 
-/// Writes the summary of a run over the registers of a tower, in one write and one flush: at most 57 lines, however
-/// many registers fail and traces break. The run has to be of the tower.
+/// Writes the summary of a run over the registers of a tower, in one write and one flush: at most 59 lines, however
+/// many registers fail and traces break. The run has to be of the tower. It ends with what is too few, where fewer
+/// operations stand than `least` says.
 pub fn summary<'x, W: Write>(
     alloc: Global,
     tower: &'x Tower,
     run: &Run<'x>,
+    least: Least,
     out: &mut W,
 ) -> Result<(), ReportFault>
     requires of_tower { IsOfTower tower.now run.now.closed }
-    ensures summary { OnOk result ((text : List ℕ) × IsSummary tower.now run.now.closed run.now.logs.items text × Appends (W.contents out.old) (W.contents out.new) text) }
+    ensures summary { OnOk result ((text : List ℕ) × IsSummary tower.now least run.now.closed run.now.logs.items text × Appends (W.contents out.old) (W.contents out.new) text) }
     ensures memory { result ≡ Err ReportFault.Memory → out.new ≡ out.old }
 {
-    let text = summary_text(alloc, tower, run)?;
+    let text = summary_text(alloc, tower, run, least)?;
     write_whole(&text, out)
 }
 
-fn summary_text<'x>(alloc: Global, tower: &'x Tower, run: &Run<'x>) -> Result<String, AllocError>
+fn summary_text<'x>(
+    alloc: Global,
+    tower: &'x Tower,
+    run: &Run<'x>,
+    least: Least,
+) -> Result<String, AllocError>
     requires of_tower { IsOfTower tower.now run.now.closed }
-    ensures { IfOk result (λ text. IsSummary tower.now run.now.closed run.now.logs.items (string_bytes text)) }
+    ensures { IfOk result (λ text. IsSummary tower.now least run.now.closed run.now.logs.items (string_bytes text)) }
 {
     let each = find_all(alloc, tower, &run.closed)?;
     let failing = failing_of(alloc, &each)?;
@@ -60,10 +68,34 @@ fn summary_text<'x>(alloc: Global, tower: &'x Tower, run: &Run<'x>) -> Result<St
         doubts: &doubts,
     };
     let mut text = String::new(alloc);
-    push_registers(&mut text, alloc, &findings)?;
-    push_refused(&mut text, &run.logs)?;
-    push_breaks(&mut text, alloc, &run.logs)?;
+    push_summary(&mut text, alloc, &findings, least)?;
     Ok(text)
+}
+
+fn push_summary(
+    text: &mut String,
+    alloc: Global,
+    findings: &RunFindings,
+    least: Least,
+) -> Result<(), AllocError>
+    ensures { OnOk result (string_bytes text.new ≡ string_bytes text.old ++ summary_text findings.now.tower.now least findings.now.each.now findings.now.doubts.now findings.now.run.now.logs.items) }
+{
+    push_registers(text, alloc, findings)?;
+    push_ends(text, alloc, findings, least)
+}
+
+/// The lines below those of the registers.
+fn push_ends(
+    text: &mut String,
+    alloc: Global,
+    findings: &RunFindings,
+    least: Least,
+) -> Result<(), AllocError>
+    ensures { OnOk result (string_bytes text.new ≡ string_bytes text.old ++ ends_text least findings.now.each.now findings.now.run.now.logs.items) }
+{
+    push_refused(text, &findings.run.logs)?;
+    push_breaks(text, alloc, &findings.run.logs)?;
+    push_few(text, least, findings.each)
 }
 
 /// The first line, and the lines of the registers that fail, that are in doubt, and that hold.
@@ -148,16 +180,6 @@ fn push_counted(text: &mut String, many: u128, word: &str) -> Result<(), AllocEr
         return Ok(());
     }
     text.push_str("s")
-}
-
-/// How many operations stand in all registers together, by what is found of them.
-pub fn count_operations(findings: &[Finding]) -> u128
-    ensures { result ≡ operations findings.now }
-{
-    findings
-        .iter()
-        .map(|finding| u128::from(finding.operations))
-        .sum()
 }
 
 fn push_refusals(text: &mut String, many: u128) -> Result<(), AllocError>

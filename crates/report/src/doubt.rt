@@ -3,8 +3,8 @@
 ghost use Rattle.std.specs.Prelude.{◌≡◌, ◌==◌, ◌&&◌, ◌<◌, ◌++◌, ◌∷◌, [], ℕ, Bool, List, IfOk, OnOk, length, flat_map, if◌then◌else◌};
 ghost use Rattle.std.specs.List.{list_any};
 ghost use Rattle.pairing.specs.declared.about.About.{About as AnAbout};
-ghost use Rattle.report.specs.Doubt.{AreDoubts, is_of_operation, is_unread, left_at, left_by, left_in, left_out_at, rests_at, rests_on, touches, touches_one, writes};
-ghost use Rattle.report.specs.Doubting.{AreNoted, touches_slot};
+ghost use Rattle.report.specs.Doubt.{AreDoubts, is_of_operation, is_unread, left_at, place_left, left_in, left_out_at, rests_at, rests_on, touches, touches_one, would_write};
+ghost use Rattle.report.specs.Doubting.{AreNotedSoFar, touches_slot};
 ghost use Rattle.register_book.specs.Fault.{ops_in_roles, roles_of};
 
 use crate::finding::Finding;
@@ -40,7 +40,7 @@ pub fn doubts_of(
 
 /// Of each register that nothing was left out.
 fn no_doubts(alloc: Global, findings: &[Finding]) -> Result<Vec<Doubt>, AllocError>
-    ensures { IfOk result (λ doubts. AreNoted findings.now doubts.items (λ test. [])) }
+    ensures { IfOk result (λ doubts. AreNotedSoFar findings.now doubts.items (λ test. [])) }
 {
     let mut doubts = Vec::new(alloc);
     for _ in findings {
@@ -58,7 +58,7 @@ fn note_log(
     feeder: usize,
     log: &Log,
 ) -> Result<(), AllocError>
-    ensures { OnOk result ((left : (AnAbout → Bool) → List (ℕ × ℕ)) → AreNoted findings.now doubts.old.items left → AreNoted findings.now doubts.new.items (λ test. left test ++ left_in test feeder log.now)) }
+    ensures { OnOk result ((left : (AnAbout → Bool) → List (ℕ × ℕ)) → AreNotedSoFar findings.now doubts.old.items left → AreNotedSoFar findings.now doubts.new.items (λ test. left test ++ left_in test feeder log.now)) }
 {
     for line in &log.lines {
         note_line(doubts, findings, feeder, line)?;
@@ -72,7 +72,7 @@ fn note_line(
     feeder: usize,
     line: &Line,
 ) -> Result<(), AllocError>
-    ensures { OnOk result ((left : (AnAbout → Bool) → List (ℕ × ℕ)) → AreNoted findings.now doubts.old.items left → AreNoted findings.now doubts.new.items (λ test. left test ++ left_at test feeder line.now)) }
+    ensures { OnOk result ((left : (AnAbout → Bool) → List (ℕ × ℕ)) → AreNotedSoFar findings.now doubts.old.items left → AreNotedSoFar findings.now doubts.new.items (λ test. left test ++ left_at test feeder line.now)) }
 {
     match &line.what {
         What::Refused(left_out) => note(doubts, findings, (feeder, line.event), &left_out.about),
@@ -87,7 +87,7 @@ fn note(
     at: (usize, u64),
     about: &About,
 ) -> Result<(), AllocError>
-    ensures { OnOk result ((left : (AnAbout → Bool) → List (ℕ × ℕ)) → AreNoted findings.now doubts.old.items left → AreNoted findings.now doubts.new.items (λ test. left test ++ (if test about.now then at ∷ [] else []))) }
+    ensures { OnOk result ((left : (AnAbout → Bool) → List (ℕ × ℕ)) → AreNotedSoFar findings.now doubts.old.items left → AreNotedSoFar findings.now doubts.new.items (λ test. left test ++ (if test about.now then at ∷ [] else []))) }
 {
     let Some(register) = about.register else {
         return Ok(());
@@ -154,7 +154,7 @@ fn touches_slot(about: &About, slot: &Option<InRole>) -> bool
 fn touches(about: &About, op: &Op) -> bool
     ensures { result ≡ touches about.now op.now }
 {
-    is_of_operation(op.id, about.operation) || writes(op.value(), about.written)
+    is_of_operation(op.id, about.operation) || would_write(op.value(), about.written)
 }
 
 fn is_of_operation(id: OpId, operation: Option<OpId>) -> bool
@@ -166,8 +166,9 @@ fn is_of_operation(id: OpId, operation: Option<OpId>) -> bool
     }
 }
 
-fn writes(value: Value, written: Written) -> bool
-    ensures { result ≡ writes value written }
+/// Whether an element would have written this value, where it can be read.
+pub fn would_write(value: Value, written: Written) -> bool
+    ensures { result ≡ would_write value written }
 {
     match written {
         Written::Known(written) => written == value,

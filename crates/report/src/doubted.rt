@@ -1,11 +1,16 @@
-//! What a summary says of the registers whose failures rest on elements that were left out.
+//! The registers whose failures rest on elements that were left out, and what a summary says of them.
 
-ghost use Rattle.std.specs.Prelude.{◌≡◌, ◌++◌, IfOk, OnOk, flat_map, is_some, length, string_bytes};
-ghost use Rattle.report.specs.Doubted.{doubted_count_text, doubted_name, doubted_names, doubted_of, doubted_text, first_rested, first_text, is_doubted};
+ghost use Rattle.std.specs.Prelude.{◌≡◌, ◌++◌, IfOk, OnOk, flat_map, is_none, is_some, length, string_bytes};
+ghost use Rattle.std.specs.List.{slice_get};
+ghost use Rattle.report.specs.Doubt.{rests_at, witness_at};
+ghost use Rattle.report.specs.Finding.{IsOfTower};
+ghost use Rattle.report.specs.Doubted.{AreAllInDoubt, any_for_sure, doubted_count_text, doubted_name, doubted_names, doubted_of, doubted_text, fails_for_sure, first_rested, first_text, is_doubted};
 
-use crate::doubt::Doubt;
+use crate::doubt::{Doubt, doubts_of};
 use crate::failing::{at_most, push_more};
+use crate::finding::{Finding, find_all};
 use intervals::RegId;
+use logs::Run;
 use phrases::{name_of, push_printed};
 use std::alloc::{AllocError, Global};
 use tower_file::Tower;
@@ -39,6 +44,48 @@ fn doubted_in(alloc: Global, tower: &Tower, doubts: &[Doubt]) -> Result<Vec<RegI
         .map(|number| RegId(number))
         .filter(|id| is_doubted(doubts, *id))
         .collect(alloc)
+}
+
+/// Whether of each register that fails, if any does, the failure rests on elements that were left out. The run has to be of
+/// the tower.
+pub fn are_all_in_doubt(alloc: Global, tower: &Tower, run: &Run) -> Result<bool, AllocError>
+    requires of_tower { IsOfTower tower.now run.now.closed }
+    ensures { IfOk result (AreAllInDoubt tower.now run.now.closed run.now.logs.items) }
+{
+    let each = find_all(alloc, tower, &run.closed)?;
+    let doubts = doubts_of(alloc, &each, &run.logs)?;
+    Ok(!any_for_sure(&each, &doubts))
+}
+
+fn any_for_sure(findings: &[Finding], doubts: &[Doubt]) -> bool
+    ensures { result ≡ any_for_sure findings.now doubts.now }
+{
+    (0..findings.len()).any(|number| fails_for_sure(findings, doubts, number))
+}
+
+/// Whether the register of this number fails, and its failure rests on no element that was left out.
+fn fails_for_sure(findings: &[Finding], doubts: &[Doubt], number: usize) -> bool
+    ensures { result ≡ fails_for_sure findings.now doubts.now number }
+{
+    has_witness(findings, number) && rests_on_nothing(doubts, number)
+}
+
+fn rests_on_nothing(doubts: &[Doubt], number: usize) -> bool
+    ensures { result ≡ is_none (slice_get (rests_at doubts.now number) 0) }
+{
+    match doubts.get(number) {
+        Some(doubt) => doubt.rests_on.first().is_none(),
+        None => true,
+    }
+}
+
+fn has_witness(findings: &[Finding], number: usize) -> bool
+    ensures { result ≡ is_some (witness_at findings.now number) }
+{
+    match findings.get(number) {
+        Some(finding) => finding.witness.is_some(),
+        None => false,
+    }
 }
 
 /// Whether the failure of a register rests on an element that was left out.

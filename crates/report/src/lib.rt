@@ -2,7 +2,7 @@
 //! to blame, the answers and refusals of each trace, and an order where one is asked for.
 //!
 //!     report(rt, alloc, &tower, &run, None, &mut out)?
-//!     summary(alloc, &tower, &run, &mut out)?        // what the report says, in at most 57 lines
+//!     summary(alloc, &tower, &run, least, &mut out)? // what the report says, in at most 59 lines
 //!     culprits(alloc, &tower, &run.closed)?          // the registers that fail while their parts hold
 //!     let each = find_all(alloc, &tower, &run.closed)?   // what is found of each register
 //!     doubts_of(alloc, &each, &run.logs)?            // what was left out of each, and what its failure rests on
@@ -22,6 +22,7 @@ mod doubt;
 mod doubted;
 mod failing;
 mod fault;
+mod few;
 mod finding;
 mod findings;
 pub mod laws;
@@ -32,12 +33,13 @@ mod refused;
 mod section;
 mod text;
 
-pub use brief::{count_broken, count_failing, count_operations, summary};
+pub use brief::{count_broken, count_failing, summary};
 pub use counts::{Counts, standing_counts};
 pub use culprit::{culprits, culprits_in, is_culprit};
-pub use doubt::{Doubt, doubts_of, rests_on};
-pub use doubted::is_doubted;
+pub use doubt::{Doubt, doubts_of, rests_on, would_write};
+pub use doubted::{are_all_in_doubt, is_doubted};
 pub use fault::ReportFault;
+pub use few::{Least, count_operations, push_few};
 pub use finding::{Finding, failing_of, find_all};
 pub use findings::RunFindings;
 pub use listing::{level_name, tower_text};

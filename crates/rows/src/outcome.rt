@@ -10,7 +10,7 @@ use std::thread::Threads;
 
 /// What a run writes to its outputs, and the digits of its status.
 #[derive(Drop)]
-pub struct Written {
+pub struct RowOutcome {
     pub out: Vec<u8>,
     pub err: Vec<u8>,
     pub status: Vec<u8>,
@@ -23,7 +23,7 @@ pub fn carried_out<R: Files + AllocGlobal + Threads + Wait + Sync>(
     input: &[u8],
     cut: Cut,
     room: usize,
-) -> io::Result<Written>
+) -> io::Result<RowOutcome>
 where
     R::File: Send,
 {
@@ -40,7 +40,7 @@ where
     );
     let written = room.saturating_sub(out.len());
     taken.truncate(written);
-    Ok(Written {
+    Ok(RowOutcome {
         out: taken,
         err,
         status: format!(in rt.alloc(); "{status}")?.into_bytes(),

@@ -1,7 +1,7 @@
 //! The moments below a picture.
 
 use crate::canvas::{Canvas, wide, window_of};
-use crate::filled::{Filling, push_filled, push_numbers};
+use crate::filled::{Filling, ops_word, push_filled, push_numbers};
 use crate::layout::Layout;
 use crate::measure::{digits_of, digits_of_moment};
 use std::alloc::AllocError;
@@ -16,19 +16,25 @@ pub fn push_axis(text: &mut String, canvas: &Canvas) -> Result<(), AllocError> {
     if many == 0 {
         return Ok(());
     }
-    push_numbers(
+    push_filled(
         text,
-        "<text class=\"quiet\" x=\"@\" y=\"@\">@ ops →</text>\n",
-        &[edge.saturating_add(4), y.saturating_add(14), many as u128],
+        "<text class=\"quiet\" x=\"@\" y=\"@\">@ @ →</text>\n",
+        &[
+            Filling::Number(edge.saturating_add(4)),
+            Filling::Number(y.saturating_add(14)),
+            Filling::Number(many as u128),
+            Filling::Word(ops_word(many)),
+        ],
     )
 }
 
-/// The moments that the caption speaks of, from left to right, but for one that has no room right of another.
+/// The moments that the caption speaks of, from left to right, but for one that has no room right of another, or beside
+/// the numbers of operations left out.
 fn push_told(text: &mut String, canvas: &Canvas) -> Result<(), AllocError> {
     let mut free = 0;
     for number in &canvas.layout.told {
         let (left, right) = room_of(&canvas.layout, *number);
-        if free <= left {
+        if free <= left && !is_in_folds(&canvas.layout, *number, left, right) {
             push_moment(text, canvas, *number, true)?;
             free = right.saturating_add(6);
         }
@@ -100,8 +106,18 @@ fn is_taken(layout: &Layout, number: usize, left: u128, right: u128) -> bool {
             return true;
         }
     }
-    is_in_fold(layout, number, left, right)
-        || is_in_fold(layout, number.saturating_add(1), left, right)
+    is_in_folds(layout, number, left, right)
+}
+
+/// Whether the number of operations left out before some mark is in the way of the moment of this one. A moment of twenty
+/// digits reaches over fewer marks than these.
+fn is_in_folds(layout: &Layout, number: usize, left: u128, right: u128) -> bool {
+    for near in number.saturating_sub(12)..number.saturating_add(13) {
+        if is_in_fold(layout, near, left, right) {
+            return true;
+        }
+    }
+    false
 }
 
 /// Whether the number of operations left out before a mark is in the way.

@@ -63,6 +63,7 @@ const MEASURE: Measure = Measure {
     fold: 38,
     first: 12,
     last: 44,
+    is_centred: true,
 };
 
 /// Where all operations are shown, they are closer to each other.

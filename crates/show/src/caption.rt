@@ -12,8 +12,19 @@ use intervals::{Initial, Kind, Op, Value, is_same_value};
 use register_book::{Side, Witness, WritesAround, is_one};
 use std::alloc::AllocError;
 
-/// Adds what there is to say of the register, a sentence a line.
+/// What the zones of a conflict are.
+const ZONES: &str =
+    "A zone goes from the first end to the last beginning of the operations of a value: forward, it was
+there all that time; backward, the other way round, at some moment of it.
+";
+
+/// Adds what there is to say of the register, a sentence a line, and its notes.
 pub fn push_caption(text: &mut String, subject: &Subject, scene: &Scene) -> Result<(), AllocError> {
+    push_verdict(text, subject, scene)?;
+    text.push_str(subject.notes)
+}
+
+fn push_verdict(text: &mut String, subject: &Subject, scene: &Scene) -> Result<(), AllocError> {
     match &scene.witness {
         Some(witness) => push_fault(text, subject, witness, &scene.around),
         None if scene.all == 0 => text.push_str("No operation stands.\n"),
@@ -128,11 +139,11 @@ fn push_source(
     match (&around.source, &around.later) {
         (Some(source), _) => {
             push_id(text, ", which @:@ wrote and ", source)?;
-            push_overwritten(text, &around.last)
+            text.push_str(overwritten_text(&around.last))
         }
         (None, _) if is_at_first(initial, read.value()) => {
             text.push_str(", the value at first, which ")?;
-            push_overwritten(text, &around.last)
+            text.push_str(overwritten_text(&around.last))
         }
         (None, Some(later)) => push_id(
             text,
@@ -144,10 +155,10 @@ fn push_source(
 }
 
 /// The write that came between.
-fn push_overwritten(text: &mut String, last: &Option<Op>) -> Result<(), AllocError> {
+fn overwritten_text(last: &Option<Op>) -> &'static str {
     match last {
-        Some(last) => push_id(text, "@:@ overwrote before R began.\n", last),
-        None => text.push_str("another write overwrote before R began.\n"),
+        Some(_) => "W1 overwrote before R began.\n",
+        None => "another write overwrote before R began.\n",
     }
 }
 
@@ -214,7 +225,8 @@ fn push_crossing(
     push_written(text, a, d, b)?;
     push_before(text, third_letter(b, c), c, "D")?;
     push_written(text, c, b, d)?;
-    text.push_str("Both cannot be: no order explains the reads.\n")
+    text.push_str("Both cannot be: no order explains the reads.\n")?;
+    text.push_str(ZONES)
 }
 
 fn second_letter(b: &Side, c: &Side) -> &'static str

@@ -45,3 +45,8 @@ fn push_filling(text: &mut String, filling: &Filling) -> Result<(), AllocError> 
         Filling::Value(value) => push_value(text, *value),
     }
 }
+
+/// The word for so many operations.
+pub fn ops_word(many: usize) -> &'static str {
+    if many == 1 { "op" } else { "ops" }
+}

@@ -51,7 +51,7 @@ mod told;
 mod zone;
 
 pub use letter::{Letter, Lettered};
-pub use page::{push_page_end, push_page_head, push_page_part};
+pub use page::{push_page_end, push_page_head, push_page_lines, push_page_link, push_page_part};
 pub use scene::{Scene, Sketch};
 pub use style::Theme;
 pub use subject::Subject;

@@ -25,6 +25,8 @@ pub struct Measure {
     pub first: u32,
     /// The distance from the last mark to the right edge.
     pub last: u32,
+    /// Whether a moment is written with its middle below its mark, and not right of it.
+    pub is_centred: bool,
 }
 
 /// The step to each mark, and last the step to the right edge.
@@ -47,12 +49,16 @@ fn step_to(scene: &Scene, measure: &Measure, number: usize) -> u32
         return measure.first;
     }
     match scene.folded.get(number) {
-        Some(many) if *many > 0 => measure
-            .gap
-            .saturating_add(measure.fold)
-            .saturating_add(width_of(measure, digits_of(*many).saturating_add(1))),
+        Some(many) if *many > 0 => measure.gap.saturating_add(fold_width(measure, *many)),
         _ => measure.gap,
     }
+}
+
+/// The width of the number of operations that are left out.
+fn fold_width(measure: &Measure, many: usize) -> u32 {
+    measure
+        .fold
+        .saturating_add(width_of(measure, digits_of(many).saturating_add(1)))
 }
 
 /// The measure with room for the moment of the last mark, and for a blank after it, left of the right edge.
@@ -78,8 +84,10 @@ pub fn wants_of(
     ensures labels { IfOk result (λ wants. (others : List AWant) × (wants.items ≡ wanted_of measure.now (length scene.now.marks.items) scene.now.labels.items 0 scene.now.spans.items ++ others)) }
 {
     let mut wants = label_wants(alloc, scene, measure)?;
-    let told = told_wants(alloc, scene, measure, told)?;
-    wants.extend_from_slice(&told)?;
+    let between = told_wants(alloc, scene, measure, told)?;
+    wants.extend_from_slice(&between)?;
+    let beside = fold_wants(alloc, scene, measure, told)?;
+    wants.extend_from_slice(&beside)?;
     Ok(wants)
 }
 
@@ -123,6 +131,54 @@ fn told_wants(
         want(&mut wants, scene, told[number - 1], told[number], wide)?;
     }
     Ok(wants)
+}
+
+/// The distances that the moments that the caption speaks of need from the numbers of operations left out beside them,
+/// where moments are written below their marks.
+fn fold_wants(
+    alloc: Global,
+    scene: &Scene,
+    measure: &Measure,
+    told: &[usize],
+) -> Result<Vec<Want>, AllocError>
+    ensures { IfOk result (λ wants. All (IsWanted (length scene.now.marks.items)) wants.items) }
+{
+    let mut wants = Vec::new(alloc);
+    if measure.is_centred {
+        for number in told {
+            want_fold(&mut wants, scene, measure, *number, *number)?;
+            want_fold(
+                &mut wants,
+                scene,
+                measure,
+                *number,
+                number.saturating_add(1),
+            )?;
+        }
+    }
+    Ok(wants)
+}
+
+/// The distance to the mark of the number `to` from the one before it, where operations are left out between the two, and
+/// the moment of the mark `told`, one of them, is written.
+fn want_fold(
+    wants: &mut Vec<Want>,
+    scene: &Scene,
+    measure: &Measure,
+    told: usize,
+    to: usize,
+) -> Result<(), AllocError>
+    ensures { OnOk result (All (IsWanted (length scene.now.marks.items)) wants.old.items → All (IsWanted (length scene.now.marks.items)) wants.new.items) }
+{
+    match scene.folded.get(to) {
+        Some(many) if *many > 0 => {
+            let least = moment_width(scene, measure, told).saturating_add(fold_width(
+                measure, *many,
+            ));
+            want(wants, scene, to.saturating_sub(1), to, least)
+        }
+        _ => Ok(()),
+    }
 }
 
 fn want(

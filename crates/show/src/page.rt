@@ -6,6 +6,7 @@ ghost use Rattle.show.specs.Svg.{quoted_text, part_head_text};
 use crate::escape::push_element;
 use crate::scene::Sketch;
 use crate::style::{Theme, push_style};
+use crate::subject::Subject;
 use crate::svg::{Sheet, push_headed};
 use crate::title::heading_of;
 use std::alloc::{AllocError, Global};
@@ -20,6 +21,7 @@ body{margin:1.5em;font-family:system-ui,sans-serif}
 summary{cursor:pointer;padding:.3em 0;font-weight:600}
 svg{max-width:100%;height:auto}
 pre{overflow-x:auto}
+footer{opacity:.7;font-size:.85em}
 </style>
 ";
 
@@ -56,11 +58,8 @@ pub fn push_page_part(
     is_unfolded: bool,
     report: &str,
 ) -> Result<(), AllocError> {
-    text.push_str(if is_unfolded {
-        "<details open=\"open\">\n"
-    } else {
-        "<details>\n"
-    })?;
+    let opened = if is_unfolded { " open=\"open\"" } else { "" };
+    write!(text, "<details id=\"register-{}\"{opened}>\n", sheet.number)?;
     push_sketch(text, alloc, sketch, sheet)?;
     push_quoted(text, report)?;
     text.push_str("</details>\n")
@@ -90,7 +89,23 @@ fn push_quoted(text: &mut String, report: &str) -> Result<(), AllocError>
     push_element(text, "<pre>", report, "</pre>\n")
 }
 
-/// Ends a page.
-pub fn push_page_end(text: &mut String) -> Result<(), AllocError> {
-    text.push_str("</body>\n</html>\n")
+/// Adds an item of the list of links: to the register of this number, by its heading.
+pub fn push_page_link(
+    text: &mut String,
+    alloc: Global,
+    subject: &Subject,
+    number: u32,
+) -> Result<(), AllocError> {
+    write!(text, "<li><a href=\"#register-{number}\">")?;
+    push_element(text, "", &heading_of(alloc, subject)?, "</a></li>\n")
+}
+
+/// Adds lines as they are.
+pub fn push_page_lines(text: &mut String, lines: &str) -> Result<(), AllocError> {
+    push_quoted(text, lines)
+}
+
+/// Ends a page, with this line at its foot.
+pub fn push_page_end(text: &mut String, line: &str) -> Result<(), AllocError> {
+    push_element(text, "<footer>", line, "</footer>\n</body>\n</html>\n")
 }

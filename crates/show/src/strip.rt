@@ -4,7 +4,7 @@ use crate::axis::push_axis;
 use crate::bar::{push_bars, push_words};
 use crate::canvas::{BAR, Canvas, ZONE, ZONE_ROW, box_width, middle_of};
 use crate::colour::{Colour, colour_of_value};
-use crate::filled::{Filling, push_filled, push_numbers};
+use crate::filled::{Filling, ops_word, push_filled, push_numbers};
 use crate::letter::is_wrong;
 use crate::zone::DrawnZone;
 use register_book::{Side, Witness};
@@ -86,10 +86,15 @@ fn push_fold(text: &mut String, canvas: &Canvas, x: u128, many: usize) -> Result
     for _ in 0..canvas.layout.lane_ends.len() {
         text.push_str("l3 3-6 6 6 6-6 6 3 3")?;
     }
-    push_numbers(
+    push_filled(
         text,
-        "\"/>\n<text class=\"quiet\" x=\"@\" y=\"@\" text-anchor=\"middle\">+@ ops</text>\n",
-        &[x, canvas.bottom.saturating_add(18), many as u128],
+        "\"/>\n<text class=\"quiet\" x=\"@\" y=\"@\" text-anchor=\"middle\">+@ @</text>\n",
+        &[
+            Filling::Number(x),
+            Filling::Number(canvas.bottom.saturating_add(18)),
+            Filling::Number(many as u128),
+            Filling::Word(ops_word(many)),
+        ],
     )
 }
 

@@ -9,7 +9,7 @@ use crate::canvas::{
 use crate::caption::push_caption;
 use crate::colour::{Colour, caption_colours};
 use crate::escape::push_element;
-use crate::filled::{Filling, push_filled, push_numbers};
+use crate::filled::{Filling, ops_word, push_filled, push_numbers};
 use crate::layout::{Window, push_lane_name};
 use crate::scene::{Scene, Sketch};
 use crate::strip::push_strip;
@@ -246,10 +246,14 @@ fn push_lane_names(
         return Ok(());
     }
     let y = top.saturating_add(canvas.bottom).saturating_add(18);
-    push_numbers(
+    push_filled(
         text,
-        "<text class=\"quiet\" x=\"16\" y=\"@\">← @ ops</text>\n",
-        &[y, many as u128],
+        "<text class=\"quiet\" x=\"16\" y=\"@\">← @ @</text>\n",
+        &[
+            Filling::Number(y),
+            Filling::Number(many as u128),
+            Filling::Word(ops_word(many)),
+        ],
     )
 }
 

@@ -50,6 +50,7 @@ const MEASURE: Measure = Measure {
     fold: 2,
     first: 0,
     last: 4,
+    is_centred: false,
 };
 
 /// Adds a timeline to a text: its title, the lanes by process, and the sentences.

@@ -6,6 +6,9 @@ use phrases::{kind_word, push_fault_text, push_printed};
 use register_book::Witness;
 use std::alloc::{AllocError, Global};
 
+/// What the heading of a register in doubt ends with.
+const IN_DOUBT: &str = "; in doubt, since elements were left out";
+
 /// Adds the register, its kind, why it fails or that it holds, and how many of its operations are shown.
 pub fn push_title(
     text: &mut String,
@@ -44,7 +47,11 @@ fn push_ascii(text: &mut String, alloc: Global, name: &[u8]) -> Result<(), Alloc
 fn push_verdict(text: &mut String, subject: &Subject) -> Result<(), AllocError> {
     match &subject.witness {
         Some(witness) => {
-            text.push_str("fails: ")?;
+            text.push_str(if subject.in_doubt {
+                "fails, in doubt: "
+            } else {
+                "fails: "
+            })?;
             push_fault_text(text, witness.ids())
         }
         None => text.push_str("holds"),
@@ -65,7 +72,8 @@ fn push_heading(text: &mut String, subject: &Subject) -> Result<(), AllocError> 
     text.push_str(match &subject.witness {
         Some(witness) => reason_for(witness),
         None => " holds",
-    })
+    })?;
+    text.push_str(if subject.in_doubt { IN_DOUBT } else { "" })
 }
 
 fn reason_for(witness: &Witness) -> &'static str {

@@ -21,7 +21,7 @@ pub shown : (held : Option (List ℕ)) (asked : AskedShow) (tower : TowerModel) 
     → ((known : List (List ℕ)) → AreTheir known → lefts ≡ map (λ text. Some text) known)
     → ((read : List (List ℕ)) × AreReadOf lefts logs read × IsRun tower asked.moments 1 read closed logs)
     → Appends old new text
-    → IsStatus tower closed logs 0 0 status
+    → IsStatus tower closed logs asked.demand status
     → IfSome held (λ file. (traces : List (List ℕ)) → AreTheir traces → IsShown asked file traces status old new)
 shown None asked tower register closed logs lefts AreTheir text status old new says named opened run written is = search rules
 shown (Some file) asked tower register closed logs lefts AreTheir text status old new says named opened run written is =

@@ -1,11 +1,13 @@
 -- What `show` draws of a register: which one, how much of it, and how wide.
-use Rattle.std.specs.Prelude.{◌≡◌, ◌↔◌, ◌-◌, ◌^◌, ℕ, min, List, [], Option, Some, None, IfSome, IsNone, if◌then◌else◌}
+use Rattle.std.specs.Prelude.{◌≡◌, ◌↔◌, ◌-◌, ◌^◌, ◌||◌, ℕ, Bool, false, min, List, [], filter, Option, Some, None, IfSome, IsNone, is_some, if◌then◌else◌}
 use Rattle.std.specs.List.{slice_get}
 use Rattle.intervals.specs.declared.claim.Initial.{Initial}
 use Rattle.intervals.specs.declared.claim.Kind.TheVariants.{Atomic}
+use Rattle.intervals.specs.declared.operation.Op.{Op}
 use Rattle.intervals.specs.declared.operation.OpId.{OpId}
 use Rattle.intervals.specs.declared.operation.RegId.{RegId}
 use Rattle.intervals.specs.Kind.{Holds}
+use Rattle.intervals.specs.Operation.{is_write}
 use Rattle.intervals.specs.Table.{ops_in_slots}
 use Rattle.intervals.specs.Terms.{ClaimModel, is_known, value_at_first}
 use Rattle.zones.specs.AtFirst.{with_start}
@@ -34,13 +36,26 @@ pub record IsDrawnOrder (book : BookModel) (ids : List OpId) : Type 0 where
   pub explains : (book.claim.kind ≡ Atomic) × Holds (claimed_of book) → IsOrder (with_start (claimed_of book)) book.ops ids
   pub none : ¬ ((book.claim.kind ≡ Atomic) × Holds (claimed_of book)) → ids ≡ []
 
+-- an operation is drawn: any where all are asked for, else each but a read without an answer, which is not judged
+abbrev pub is_drawn : Bool → Op → Bool
+is_drawn all op = all || (is_write op || is_some op.end)
+
+-- the operation of a slot is drawn, where it has one
+abbrev pub is_drawn_slot : Bool → Option Op → Bool
+is_drawn_slot all None = false
+is_drawn_slot all (Some op) = is_drawn all op
+
+-- the operations that are drawn
+abbrev pub drawn_ops : Bool → List Op → List Op
+drawn_ops all ops = filter (is_drawn all) ops
+
 -- the register of this number: its name, its kind, its value at first, its operations, the witness, none exactly where it
 -- holds, and an order
-pub record IsSubjectOf (tower : TowerModel) (id : RegId) (book : BookModel) (subject : Subject) : Type 0 where
+pub record IsSubjectOf (tower : TowerModel) (id : RegId) (book : BookModel) (all : Bool) (subject : Subject) : Type 0 where
   pub name : subject.name.now ≡ register_name tower.registers id
   pub kind : subject.kind ≡ book.claim.kind
   pub initial : IfSome (slice_get tower.registers id.0) (λ register. IsInitialOf register.claim subject.initial)
-  pub ops : ops_in_slots subject.slots.now ≡ book.ops
+  pub ops : ops_in_slots subject.slots.now ≡ drawn_ops all book.ops
   pub witness : IfSome subject.witness (IsWitness book.claim book.ops)
   pub none : IsNone subject.witness ↔ Holds (claimed_of book)
   pub order : IsDrawnOrder book subject.order.now
@@ -62,6 +77,6 @@ theme_by asked_themes.Dark = shown_themes.Dark
 
 -- the sketch of the register of this number, with as much of it as is asked for
 pub record IsSketchOf (asked : AskedShow) (tower : TowerModel) (id : RegId) (book : BookModel) (sketch : Sketch) : Type 0 where
-  pub subject : IsSubjectOf tower id book sketch.subject
+  pub subject : IsSubjectOf tower id book asked.all sketch.subject
   pub extent : sketch.extent ≡ asked_extent asked
   pub scene : IsScene sketch.subject sketch.extent sketch.scene

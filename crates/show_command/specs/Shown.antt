@@ -27,7 +27,7 @@ pub record IsShown (asked : AskedShow) (file : List ℕ) (traces : List (List �
   pub run : IsRun tower asked.moments 1 read closed logs
   pub text : List ℕ
   pub written : Appends old new text
-  pub status_is : IsStatus tower closed logs 0 0 status
+  pub status_is : IsStatus tower closed logs asked.demand status
 
 -- an operation of the register of this number stands
 abbrev pub IsUsed : List ClosedShard → ℕ → Type 0

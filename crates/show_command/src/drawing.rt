@@ -6,13 +6,15 @@ ghost use Rattle.command_parts.specs.Files.{AreHeld};
 ghost use Rattle.show_command.specs.Shown.{IsShown};
 
 use crate::picture::picture;
-use command_parts::{CommandFault, Files, Job, OpenedRun, open_run, status_after, write_text};
+use command_parts::{
+    CommandFault, Files, Job, OpenedRun, judge, open_run, status_after, write_text,
+};
 use report::laws::a_run_is_of_its_tower;
 use std::io::Write;
 use std::mem::forget;
 use std::sync::Wait;
 use std::thread::Threads;
-use words::Show;
+use words::{Picture, Show};
 
 /// Judges the registers of a tower as `check` does, and writes a picture of one of them, or a page of those that fail.
 /// The faults come in the order of those of `check`.
@@ -43,23 +45,28 @@ pub fn draw<'a, A: AllocGlobal + Threads + Wait + Sync, F: Files, W: Write>(
         moments: asked.moments,
         shards: 1,
     };
-    let run = match job.run(readers) {
-        Ok(run) => run,
+    let judged = match judge(&job, names_lines(asked.picture), readers) {
+        Ok(judged) => judged,
         Err(fault) => return Err(CommandFault::of_run(fault)),
     };
-    let Ok(status) = status_after(alloc, 0, 0, &tower, &run) else {
+    let Ok(status) = status_after(alloc, asked.demand, &tower, &judged.run) else {
         return Err(CommandFault::Memory);
     };
-    let Ok(text) = picture(alloc, asked, &tower, &run, register) else {
+    let Ok(text) = picture(alloc, asked, &tower, &judged, register) else {
         return Err(CommandFault::Memory);
     };
     match write_text(out, text.as_str()) {
         Ok(()) => {
             // As in `check`, the run is not freed.
-            forget(run);
+            forget(judged);
             forget(pages);
             Ok(status)
         }
         Err(_) => Err(CommandFault::Unwritable),
     }
+}
+
+/// Whether a picture of this form names the files and the lines of elements. One as SVG is apart from any text.
+fn names_lines(picture: Picture) -> bool {
+    picture != Picture::Svg
 }

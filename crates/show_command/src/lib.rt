@@ -3,7 +3,9 @@
 //! `specs/Shown.antt` says what it did.
 #![tactic(auto)]
 
+mod call;
 mod drawing;
 mod picture;
+mod sources;
 
 pub use drawing::draw;

@@ -1,22 +1,28 @@
 //! The text of a picture that `show` draws.
 
-ghost use Rattle.std.specs.Prelude.{◌↔◌, ◌<◌, IfSome, IsTrue, length, ◌≡◌, IfOk};
+ghost use Rattle.std.specs.Prelude.{◌↔◌, ◌<◌, filter, IfSome, IsTrue, length, ◌≡◌, IfOk};
+ghost use Rattle.intervals.specs.Table.{ops_in_slots};
 ghost use Rattle.report.specs.Finding.{IsOfTower};
-ghost use Rattle.show_command.specs.Drawn.{IsDrawnOrder, IsSketchOf, IsSubjectOf, asked_extent, asked_width, theme_by};
+ghost use Rattle.show_command.specs.Drawn.{IsDrawnOrder, IsSketchOf, IsSubjectOf, asked_extent, asked_width, drawn_ops, is_drawn, is_drawn_slot, theme_by};
 ghost use Rattle.show_command.specs.Shown.{IsDrawn, IsFirstUsed, IsUsed};
 ghost use Rattle.show_command.specs.declared.picture.TheConstants.{CELLS, UNITS};
 ghost use Rattle.words.specs.Words.{asked_show};
 
-use intervals::{Initial, Memory, OpId, RegId};
-use logs::{Log, Run};
+use crate::call::push_call;
+use crate::sources::{Sources, push_many};
+use command_parts::Judged;
+use intervals::{Initial, Memory, Op, OpId, RegId};
+use logs::Run;
+use phrases::{name_of, push_printed};
 use register_book::RegisterBook;
 use report::{
-    Finding, count_broken, count_refused, culprits, push_broken, push_refused, push_section,
+    Doubt, Finding, Least, count_broken, count_operations, culprits, doubts_of, find_all,
+    is_doubted, push_few, push_section,
 };
 use shards::Closed;
 use show::{
-    Look, Sheet, Sketch, Subject, Theme, push_page_end, push_page_head, push_page_part,
-    push_picture, push_timeline,
+    Look, Sheet, Sketch, Subject, Theme, push_page_end, push_page_head, push_page_lines,
+    push_page_link, push_page_part, push_picture, push_timeline,
 };
 use std::alloc::{AllocError, Global};
 use timeline::Extent;
@@ -29,11 +35,20 @@ const CELLS: u32 = 100;
 /// How many units a row of a drawing has where no width is given.
 const UNITS: u32 = 1000;
 
-/// A register of a page, and whether its picture is unfolded.
+/// How many registers of a page are unfolded, at most.
+const UNFOLDED: usize = 20;
+
+/// What is drawn from: a run over the registers of a tower, what is found of it, what of it is in doubt, and where it
+/// comes from.
 #[derive(Clone, Copy)]
-struct PagePart {
-    id: RegId,
-    is_unfolded: bool,
+struct ShownRun<'a, 'b, 't, 'r, 'x, 'n, 's, 'k, 'l> {
+    alloc: Global,
+    asked: &'a Show<'b>,
+    tower: &'t Tower,
+    run: &'r Run<'x>,
+    findings: &'l [Finding<'x>],
+    doubts: &'l [Doubt],
+    sources: &'l Sources<'n, 's, 'k>,
 }
 
 /// The text of a picture of one register, or of a page of all registers that fail.
@@ -41,19 +56,36 @@ pub fn picture(
     alloc: Global,
     asked: &Show,
     tower: &Tower,
-    run: &Run,
+    judged: &Judged,
     named: Option<RegId>,
 ) -> Result<String, Memory>
-    requires of_tower { IsOfTower tower.now run.now.closed }
+    requires of_tower { IsOfTower tower.now judged.now.run.closed }
     requires named { IfSome named (λ id. id.0 < length tower.now.registers) }
 {
+    let run = &judged.run;
     let to_blame = culprits(alloc, tower, &run.closed)?;
-    let mut text = String::new(alloc);
-    match (asked.picture, named) {
-        (Picture::Html, None) => push_page(&mut text, alloc, asked, tower, run, &to_blame)?,
-        _ => match drawn(tower, &run.closed, named, &to_blame) {
-            Some(id) => push_one(&mut text, alloc, asked, tower, run, id)?,
-            None => text.push_str(without_register(asked.picture))?,
+    let findings = find_all(alloc, tower, &run.closed)?;
+    let doubts = doubts_of(alloc, &findings, &run.logs)?;
+    let sources = Sources::of(alloc, &asked.traces, &judged.texts)?;
+    let view = ShownRun {
+        alloc,
+        asked,
+        tower,
+        run,
+        findings: &findings,
+        doubts: &doubts,
+        sources: &sources,
+    };
+    picture_of(view, named, &to_blame)
+}
+
+fn picture_of(view: ShownRun, named: Option<RegId>, to_blame: &[RegId]) -> Result<String, Memory> {
+    let mut text = String::new(view.alloc);
+    match (view.asked.picture, named) {
+        (Picture::Html, None) => push_page(&mut text, view, to_blame)?,
+        _ => match drawn(view.tower, &view.run.closed, named, to_blame) {
+            Some(id) => push_one(&mut text, view, id)?,
+            None => text.push_str(without_register(view.asked.picture))?,
         },
     }
     Ok(text)
@@ -108,54 +140,72 @@ fn is_used(closed: &Closed, id: RegId) -> bool
 }
 
 /// The picture of one register.
-fn push_one(
-    text: &mut String,
-    alloc: Global,
-    asked: &Show,
-    tower: &Tower,
-    run: &Run,
-    id: RegId,
-) -> Result<(), Memory> {
-    let Some(book) = run.closed.book(id) else {
+fn push_one(text: &mut String, view: ShownRun, id: RegId) -> Result<(), Memory> {
+    if view.asked.picture == Picture::Html {
+        push_page_head(text, theme_of(view.asked), "A register and its operations")?;
+        push_origin(text, view)?;
+        push_part(text, view, id, true)?;
+        return push_end(text, view);
+    }
+    let Some(book) = view.run.closed.book(id) else {
         return Ok(());
     };
-    if asked.picture == Picture::Html {
-        push_page_head(text, theme_of(asked), "A register and its operations")?;
-        let part = PagePart {
-            id,
-            is_unfolded: true,
-        };
-        push_part(text, alloc, asked, tower, book, part)?;
-        push_left_out(text, "<pre>", &run.logs, "</pre>\n")?;
-        push_page_end(text)?;
-        return Ok(());
-    }
-    let order = order_of(alloc, book)?;
-    let sketch = sketch_of(alloc, asked, tower, book, id, &order)?;
-    push_sketch(text, alloc, asked, &sketch, id)?;
-    if asked.picture != Picture::Svg {
-        push_left_out(text, "\n", &run.logs, "")?;
+    let drawing = drawing_of(view, id, book)?;
+    let sketch = sketch_of(view, view.tower, id, book, &drawing)?;
+    push_sketch(text, view.alloc, view.asked, &sketch, id)?;
+    if view.asked.picture != Picture::Svg {
+        push_below(text, "\n", &letters_text(view, &sketch)?)?;
+        push_below(text, "\n", &amiss_text(view)?)?;
     }
     Ok(())
 }
 
-/// What was not judged: the elements that were refused, by code as a summary has them, and where traces broke, as a
-/// report has that. Where all was judged nothing is added.
-fn push_left_out(
-    text: &mut String,
-    before: &str,
-    logs: &[Log],
-    after: &str,
-) -> Result<(), AllocError> {
-    if count_refused(logs) == 0 && count_broken(logs) == 0 {
+fn push_below(text: &mut String, before: &str, lines: &str) -> Result<(), AllocError> {
+    if lines.is_empty() {
         return Ok(());
     }
     text.push_str(before)?;
-    push_refused(text, logs)?;
-    for feeder in 0..logs.len() {
-        push_broken(text, feeder, logs[feeder].broken)?;
-    }
-    text.push_str(after)
+    text.push_str(lines)
+}
+
+/// Where the operations that have letters are in their files.
+fn letters_text(view: ShownRun, sketch: &Sketch) -> Result<String, AllocError> {
+    let mut lines = String::new(view.alloc);
+    view.sources
+        .push_letters(&mut lines, &sketch.scene.letters)?;
+    Ok(lines)
+}
+
+/// What was not judged: what was refused, where traces broke, and what is too few.
+fn amiss_text(view: ShownRun) -> Result<String, AllocError> {
+    let mut lines = String::new(view.alloc);
+    view.sources
+        .push_left_out(&mut lines, view.alloc, &view.run.logs)?;
+    let least = Least {
+        all: view.asked.demand.least,
+        each: view.asked.demand.least_each,
+    };
+    push_few(&mut lines, least, view.findings)?;
+    Ok(lines)
+}
+
+/// What the pictures of a page are of: the tower file, the traces, and what of them was not judged.
+fn push_origin(text: &mut String, view: ShownRun) -> Result<(), AllocError> {
+    let mut lines = String::new(view.alloc);
+    push_printed(&mut lines, view.asked.tower.as_bytes())?;
+    push_many(&mut lines, ": ", view.tower.len(), "register")?;
+    lines.push_str("\n")?;
+    view.sources.push_traces(&mut lines, &view.run.logs)?;
+    lines.push_str(&amiss_text(view)?)?;
+    push_page_lines(text, &lines)
+}
+
+/// Ends a page with the program and the words of the call.
+fn push_end(text: &mut String, view: ShownRun) -> Result<(), Memory> {
+    let mut line = String::new(view.alloc);
+    push_call(&mut line, view.asked)?;
+    push_page_end(text, &line)?;
+    Ok(())
 }
 
 /// A register in lines of a terminal, or as SVG.
@@ -177,70 +227,99 @@ fn push_sketch(
 }
 
 /// A page of all registers that fail, with the culprits unfolded; where none fails, of one that holds.
-fn push_page(
-    text: &mut String,
-    alloc: Global,
-    asked: &Show,
-    tower: &Tower,
-    run: &Run,
-    to_blame: &[RegId],
-) -> Result<(), Memory> {
-    let closed = &run.closed;
-    let mut failing = Vec::new(alloc);
-    for number in 0..tower.len() {
+fn push_page(text: &mut String, view: ShownRun, to_blame: &[RegId]) -> Result<(), Memory> {
+    let closed = &view.run.closed;
+    let mut failing = Vec::new(view.alloc);
+    for number in 0..view.tower.len() {
         let id = RegId(number as u32);
         if closed.book(id).is_some_and(|book| !book.holds()) {
             failing.push(id)?;
         }
     }
-    let all = tower.len();
-    let line = match failing.len() {
-        0 => format!(in alloc; "None of {all} registers fails")?,
-        many => format!(in alloc;
-            "{many} of {all} registers fail, {} to blame",
-            to_blame.len()
-        )?,
-    };
-    push_page_head(text, theme_of(asked), &line)?;
+    let line = page_title(view, failing.len(), to_blame.len())?;
+    push_page_head(text, theme_of(view.asked), &line)?;
+    push_origin(text, view)?;
     if failing.is_empty() {
-        if let Some(id) = drawn(tower, closed, None, to_blame) {
+        if let Some(id) = drawn(view.tower, closed, None, to_blame) {
             failing.push(id)?;
         }
     }
+    push_links(text, view, &failing)?;
+    let mut unfolded: usize = 0;
     for id in &failing {
-        if let Some(book) = closed.book(*id) {
-            let part = PagePart {
-                id: *id,
-                is_unfolded: book.holds() || to_blame.contains(id),
+        let is_unfolded = unfolded < UNFOLDED
+            && (to_blame.contains(id) || closed.book(*id).is_some_and(|book| book.holds()));
+        if is_unfolded {
+            unfolded = unfolded.saturating_add(1);
+        }
+        push_part(text, view, *id, is_unfolded)?;
+    }
+    push_end(text, view)
+}
+
+/// How many registers fail, or that nothing was judged.
+fn page_title(view: ShownRun, failing: usize, blamed: usize) -> Result<String, AllocError> {
+    let all = view.tower.len();
+    if count_operations(view.findings) == 0 {
+        let why = if count_broken(&view.run.logs) > 0 {
+            ", and a trace broke"
+        } else {
+            ""
+        };
+        return format!(in view.alloc; "Nothing was judged: no operation stands{why}");
+    }
+    match (failing, all) {
+        (0, 1) => format!(in view.alloc; "The register holds"),
+        (0, _) => format!(in view.alloc; "None of {all} registers fails"),
+        (many, _) => format!(in view.alloc; "{many} of {all} registers fail, {blamed} to blame"),
+    }
+}
+
+/// A link to each register of a page that has several.
+fn push_links(text: &mut String, view: ShownRun, ids: &[RegId]) -> Result<(), Memory> {
+    if ids.len() < 2 {
+        return Ok(());
+    }
+    text.push_str("<ul>\n")?;
+    for id in ids {
+        if let Some(book) = view.run.closed.book(*id) {
+            let subject = Subject {
+                name: name_of(view.tower, *id),
+                kind: book.kind(),
+                initial: Initial::Unknown,
+                slots: &[],
+                witness: book.witness(),
+                order: &[],
+                in_doubt: is_doubted(view.doubts, *id),
+                notes: "",
             };
-            push_part(text, alloc, asked, tower, book, part)?;
+            push_page_link(text, view.alloc, &subject, id.0)?;
         }
     }
-    push_left_out(text, "<pre>", &run.logs, "</pre>\n")?;
-    push_page_end(text)?;
+    text.push_str("</ul>\n")?;
     Ok(())
 }
 
-/// A register of a page, with what the report says of it.
+/// A register of a page, with where its operations are and what the report says of it.
 fn push_part(
     text: &mut String,
-    alloc: Global,
-    asked: &Show,
-    tower: &Tower,
-    book: &RegisterBook,
-    part: PagePart,
+    view: ShownRun,
+    id: RegId,
+    is_unfolded: bool,
 ) -> Result<(), Memory> {
-    let order = order_of(alloc, book)?;
-    let sketch = sketch_of(alloc, asked, tower, book, part.id, &order)?;
-    let finding = Finding {
-        kind: book.kind(),
-        operations: book.len() as u64,
-        witness: book.witness(),
+    let (Some(book), Some(finding)) = (view.run.closed.book(id), view.findings.get(id.0 as usize))
+    else {
+        return Ok(());
     };
-    let mut section = String::new(alloc);
-    push_section(&mut section, tower, part.id, &finding)?;
-    let sheet = sheet_of(asked, part.id, false);
-    push_page_part(text, alloc, &sketch, &sheet, part.is_unfolded, &section)?;
+    let drawing = drawing_of(view, id, book)?;
+    let sketch = sketch_of(view, view.tower, id, book, &drawing)?;
+    let mut section = letters_text(view, &sketch)?;
+    if !section.is_empty() {
+        section.push_str("\n")?;
+    }
+    push_section(&mut section, view.tower, id, finding)?;
+    let sheet = sheet_of(view.asked, id, false);
+    push_page_part(text, view.alloc, &sketch, &sheet, is_unfolded, &section)?;
     Ok(())
 }
 
@@ -254,29 +333,119 @@ fn order_of(alloc: Global, book: &RegisterBook) -> Result<Vec<OpId>, Memory>
     }
 }
 
-/// The sketch of a register, with as much of it as is asked for: all that is drawn of it.
-fn sketch_of<'a, 't>(
-    alloc: Global,
-    asked: &Show,
-    tower: &'a Tower,
-    book: &'a RegisterBook<'t>,
+/// What is drawn of a register: its operations, an order of them, and what is said of them.
+#[derive(Drop)]
+struct DrawnRegister<'t> {
+    slots: Vec<Option<Op<'t>>>,
+    order: Vec<OpId>,
+    in_doubt: bool,
+    notes: String,
+}
+
+#[tactic(auto, using(crate::proofs::Subjects::drawn_in_slots))]
+fn drawing_of<'x>(
+    view: ShownRun<'_, '_, '_, '_, 'x, '_, '_, '_, '_>,
     id: RegId,
-    order: &'a [OpId],
-) -> Result<Sketch<'a, 't>, AllocError>
-    requires order { IsDrawnOrder book.now order.now }
-    ensures { IfOk result (IsSketchOf (asked_show asked.now) tower.now id book.now) }
+    book: &RegisterBook<'x>,
+) -> Result<DrawnRegister<'x>, Memory>
+    ensures order { IfOk result (λ drawing. IsDrawnOrder book.now drawing.order.items) }
+    ensures slots { IfOk result (λ drawing. ops_in_slots drawing.slots.items ≡ drawn_ops (asked_show view.entry.asked.now).all book.now.ops) }
 {
-    Sketch::of(alloc, subject_of(tower, book, id, order), extent_of(asked))
+    let all = view.asked.all;
+    let slots = drawn_slots(view.alloc, all, book.slots())?;
+    let order = order_of(view.alloc, book)?;
+    let mut notes = String::new(view.alloc);
+    if !all {
+        push_unanswered(&mut notes, count_unanswered(book.slots()))?;
+    }
+    if let Some(doubt) = view.doubts.get(id.0 as usize) {
+        view.sources.push_doubt(&mut notes, &view.run.logs, doubt)?;
+    }
+    Ok(DrawnRegister {
+        slots,
+        order,
+        in_doubt: is_doubted(view.doubts, id),
+        notes,
+    })
+}
+
+/// The operations that are drawn: all, or all but the reads without an answer, which are not judged.
+fn drawn_slots<'t>(
+    alloc: Global,
+    all: bool,
+    slots: &[Option<Op<'t>>],
+) -> Result<Vec<Option<Op<'t>>>, AllocError>
+    ensures { IfOk result (λ drawn. drawn.items ≡ filter (is_drawn_slot all) slots.now) }
+{
+    slots
+        .iter()
+        .filter(|slot| is_drawn_slot(all, slot))
+        .copied()
+        .collect(alloc)
+}
+
+fn is_drawn_slot(all: bool, slot: &Option<Op>) -> bool
+    ensures { result ≡ is_drawn_slot all slot.now }
+{
+    match slot {
+        Some(op) => is_drawn(all, op),
+        None => false,
+    }
+}
+
+fn is_drawn(all: bool, op: &Op) -> bool
+    ensures { result ≡ is_drawn all op.now }
+{
+    all || op.is_write() || op.end.is_some()
+}
+
+/// How many reads have no answer.
+fn count_unanswered(slots: &[Option<Op>]) -> u64 {
+    let mut many: u64 = 0;
+    for slot in slots {
+        if let Some(op) = slot {
+            if !is_drawn(false, op) {
+                many = many.saturating_add(1);
+            }
+        }
+    }
+    many
+}
+
+fn push_unanswered(text: &mut String, many: u64) -> Result<(), AllocError> {
+    match many {
+        0 => Ok(()),
+        1 => text.push_str("A read without an answer is not shown.\n"),
+        _ => write!(text, "{many} reads without an answer are not shown.\n"),
+    }
+}
+
+/// The sketch of a register, with as much of it as is asked for: all that is drawn of it.
+fn sketch_of<'a, 'x>(
+    view: ShownRun<'_, '_, '_, '_, 'x, '_, '_, '_, '_>,
+    tower: &'a Tower,
+    id: RegId,
+    book: &RegisterBook<'x>,
+    drawing: &'a DrawnRegister<'x>,
+) -> Result<Sketch<'a, 'x>, AllocError>
+    requires order { IsDrawnOrder book.now drawing.now.order.items }
+    requires slots { ops_in_slots drawing.now.slots.items ≡ drawn_ops (asked_show view.asked.now).all book.now.ops }
+    ensures { IfOk result (IsSketchOf (asked_show view.entry.asked.now) tower.now id book.now) }
+{
+    let subject = subject_of(tower, book, id, view.asked.all, drawing);
+    Sketch::of(view.alloc, subject, extent_of(view.asked))
 }
 
 fn subject_of<'a, 't>(
     tower: &'a Tower,
-    book: &'a RegisterBook<'t>,
+    book: &RegisterBook<'t>,
     id: RegId,
-    order: &'a [OpId],
+    all: bool,
+    drawing: &'a DrawnRegister<'t>,
 ) -> Subject<'a, 't>
-    requires order { IsDrawnOrder book.now order.now }
-    ensures { IsSubjectOf tower.now id book.now result }
+    requires order { IsDrawnOrder book.now drawing.now.order.items }
+    requires slots { ops_in_slots drawing.now.slots.items ≡ drawn_ops all book.now.ops }
+    ensures { IsSubjectOf tower.now id book.now all result }
 {
     Subject {
         name: match tower.name(id) {
@@ -288,9 +457,11 @@ fn subject_of<'a, 't>(
             Some(claim) => claim.initial,
             None => Initial::Unknown,
         },
-        slots: book.slots(),
+        slots: &drawing.slots,
         witness: book.witness(),
-        order,
+        order: &drawing.order,
+        in_doubt: drawing.in_doubt,
+        notes: &drawing.notes,
     }
 }
 

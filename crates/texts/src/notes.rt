@@ -95,33 +95,38 @@ pub(crate) const NOTES: [Explanation; 8] = [
         mend: "name all traces of the run, and the processes as they are logged.",
         see: "X6",
     },
-    // two events of a trace have one moment; or a moment is out of proportion to the one before and the one after it
+    // once a trace: events have the moment of an earlier one, and how many; or moments are out of proportion to those
+    // before and after them
     Explanation {
         code: "L7",
         name: "TiedMoments",
         message: "",
         outcome: NOTED,
-        what: "Two events have one moment, or a moment is out of proportion.",
-        more: "On one register a tie is refused, as X4. On two it does no harm. A moment is out of
-proportion that is at least 1000 times the ones before and after it, neither of which is 0.",
+        what: "Events have the moment of an earlier one, or a moment is out of proportion.",
+        more: "It is said once of a trace, of the first, with how many there are. On one register a tie is
+refused, as X4. On two it does no harm. A moment is out of proportion that is at least 1000 times
+the ones before and after it, neither of which is 0.",
         mostly: "a clock that is too coarse, or moments in two units.",
         tower: ANY_WRITERS,
         example: "{:process 0 :type :invoke :f :write :value 1 :index 0}
          {:process 1 :type :invoke :f :write :value 2 :index 0}      ; L7, and X4",
-        mend: "number the events under `:index`, in their order.",
+        mend: "take the other field, where each event has one of its own (`--moment index`); else number the
+         events under `:index`, in their order.",
         see: "X4",
     },
-    // a register fails by an operation that a refusal touches: a read returned the value of this refused write, or
-    // this refused edit is of an operation of the witness
+    // the failure of a register rests on this element, which was left out: it would have written what an operation that
+    // shows the failure read or wrote, or a value that cannot be read; or it answers or edits such an operation; or it
+    // claims a kind
     Explanation {
         code: "L8",
         name: "RestsOnARefusal",
         message: "",
         outcome: NOTED,
-        what: "A register fails by an operation that a refusal touches.",
-        more: "The read returned the value of a write that was refused, or an edit of the operation or a claim
-of the register was refused. The verdict may be of the log, and not of the register.",
-        mostly: "a write that met X7, since the one before it has no end.",
+        what: "The failure of a register rests on an element that was left out.",
+        more: "It would have written what an operation that shows the failure read or wrote, or a value that
+cannot be read; or it answers or edits such an operation; or it claims a kind of the register. The
+verdict may be of the log, and not of the register.",
+        mostly: "a value that is written twice, a `:cas`, or a write that met X7.",
         tower: "{:levels [{:name l :registers [{:name r :kind :regular :writers [0] :initial 0}]}]}",
         example: "{:process 0 :type :invoke :f :write :value 1 :index 0}
          {:process 0 :type :info :f :write}

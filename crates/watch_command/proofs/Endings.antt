@@ -23,7 +23,7 @@ pub followed : (held : Option (List ℕ)) (asked : AskedWatch) (tower : TowerMod
     → ((known : List (List ℕ)) → AreTheir known → lefts ≡ map (λ text. Some text) known)
     → terms ≡ watch_terms asked
     → IsWatched tower terms lefts closed logs stopped old new
-    → IsWatchStatus tower closed logs stopped status
+    → IsWatchStatus tower closed logs asked.demand stopped status
     → IfSome held (λ file. (traces : List (List ℕ)) → AreTheir traces → IsFollowed asked file traces status old new)
 followed None asked tower closed logs stopped terms lefts AreTheir status old new says opened same watched is = search rules
 followed (Some file) asked tower closed logs stopped terms lefts AreTheir status old new says opened same watched is =

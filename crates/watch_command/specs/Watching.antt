@@ -16,6 +16,7 @@ use Rattle.watch.specs.Watched.{IsWatched}
 use Rattle.words.specs.declared.watch.LineForm.{LineForm}
 use Rattle.words.specs.declared.watch.LineForm.TheVariants.{Text, Json}
 use Rattle.words.specs.Words.{AskedWatch}
+use Rattle.words.specs.declared.demand.Demand.{Demand}
 use Rattle.command_parts.specs.declared.fault.CommandFault.{CommandFault}
 use Rattle.command_parts.specs.declared.fault.CommandFault.TheVariants.{Memory, Unwritable, Shard, Untold}
 use Rattle.command_parts.specs.Status.{IsStatus}
@@ -36,10 +37,10 @@ unfollowed watches.Write = Unwritable
 unfollowed (watches.Shard fault) = Shard fault
 unfollowed watches.Untold = Untold
 
--- the status of a watch: 1 where a register that failed stopped it, else that of its run
-abbrev pub IsWatchStatus : TowerModel → List ClosedShard → List Log → Bool → ℕ → Type 0
-IsWatchStatus tower closed logs true status = status ≡ 1
-IsWatchStatus tower closed logs false status = IsStatus tower closed logs 0 0 status
+-- the status of a watch: 1 where a register that failed stopped it, else that of its run, by what has to be met
+abbrev pub IsWatchStatus : TowerModel → List ClosedShard → List Log → Demand → Bool → ℕ → Type 0
+IsWatchStatus tower closed logs demand true status = status ≡ 1
+IsWatchStatus tower closed logs demand false status = IsStatus tower closed logs demand status
 
 -- what `watch` did: a feeder for each trace fed it to the registers of the file's tower, as far as it was read, and the
 -- notices of what happened were written (`IsWatched`)
@@ -50,7 +51,7 @@ pub record IsFollowed (asked : AskedWatch) (file : List ℕ) (traces : List (Lis
   pub logs : List Log
   pub stopped : Bool
   pub watched : IsWatched tower (watch_terms asked) (map (λ trace. Some trace) traces) closed logs stopped old new
-  pub status_is : IsWatchStatus tower closed logs stopped status
+  pub status_is : IsWatchStatus tower closed logs asked.demand stopped status
 
 -- whole notices, of registers of the tower that the file says, were written, and nothing else
 pub record HasNoticesAlone (asked : AskedWatch) (file old new : Option (List ℕ)) : Type 0 where

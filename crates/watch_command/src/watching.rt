@@ -3,9 +3,11 @@
 ghost use Rattle.std.specs.Prelude.{◌≡◌, ◌≢◌, ◌≤◌, ◌<◌, ℕ, List, IfOk, IfErr, IfSome, length, map};
 ghost use Rattle.words.specs.Words.{asked_watch};
 ghost use Rattle.command_parts.specs.Files.{AreHeld};
+ghost use Rattle.report.specs.Finding.{IsOfTower};
 ghost use Rattle.watch_command.specs.Watching.{HasWholeNotices, IsFollowed, IsWatchStatus, notice_form, unfollowed, watch_terms};
 
 use command_parts::{CommandFault, Files, OpenedRun, open_run, status_after};
+use report::laws::a_run_is_of_its_tower;
 use std::alloc::{AllocError, Global};
 use std::io::Write;
 use std::mem::forget;
@@ -13,7 +15,7 @@ use std::sync::Wait;
 use std::thread::Threads;
 use tower_file::Tower;
 use watch::{NoticeForm, Terms, WatchFault, Watched, watch_readers};
-use words::{LineForm, Watch};
+use words::{Demand, LineForm, Watch};
 
 /// Watches the registers of a tower while traces are read. The faults come in this order: too many traces, the tower
 /// file, a trace that cannot be opened, the run and the writing. All traces are opened before any is read.
@@ -37,12 +39,13 @@ pub fn follow<'a, A: AllocGlobal + Threads + Wait + Sync, F: Files, W: Write + S
         pages,
         ..
     } = open_run(alloc, files, asked.tower, None, &asked.traces)?;
+    a_run_is_of_its_tower();
     let terms = watch_terms(asked);
     let watched = match watch_readers(rt, &tower, readers, &pages, &terms, out) {
         Ok(watched) => watched,
         Err(fault) => return Err(unfollowed(fault)),
     };
-    let Ok(status) = watch_status(alloc, &tower, &watched) else {
+    let Ok(status) = watch_status(alloc, asked.demand, &tower, &watched) else {
         return Err(CommandFault::Memory);
     };
     // As in `check`, the run is not freed.
@@ -86,11 +89,17 @@ fn notice_form(form: LineForm) -> NoticeForm
 }
 
 /// The status of a watch: 1 where a register that failed stopped it, else that of its run.
-fn watch_status(alloc: Global, tower: &Tower, watched: &Watched) -> Result<u8, AllocError>
-    ensures { IfOk result (IsWatchStatus tower.now watched.now.run.closed watched.now.run.logs.items watched.now.stopped) }
+fn watch_status(
+    alloc: Global,
+    demand: Demand,
+    tower: &Tower,
+    watched: &Watched,
+) -> Result<u8, AllocError>
+    requires of_tower { IsOfTower tower.now watched.now.run.closed }
+    ensures { IfOk result (IsWatchStatus tower.now watched.now.run.closed watched.now.run.logs.items demand watched.now.stopped) }
 {
     if watched.stopped {
         return Ok(1);
     }
-    status_after(alloc, 0, 0, tower, &watched.run)
+    status_after(alloc, demand, tower, &watched.run)
 }

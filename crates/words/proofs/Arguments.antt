@@ -9,7 +9,7 @@ use Rattle.clap.specs.Words.{Text, all_of, first_of, first_value, found_of, matc
 use Rattle.clap.specs.ValueTests.{is_numeral, is_unsigned_in}
 use Rattle.clap.specs.declared.ArgMatches.{ArgMatches}
 use Rattle.clap.proofs.WalkLemmas.{both, first_value-rows, raw_values-rows}
-use Rattle.words.specs.Words.{count_in, shards_in}
+use Rattle.words.specs.Words.{count_in, shards_in, status_in}
 
 -- the value that a getter gives is that among the rows
 pub value_in : (found : ArgMatches) (id : Text) (value : Option Text) → value ≡ first_value (found_of found) id → first_of id (rows_of (found_of found)) ≡ value
@@ -79,4 +79,26 @@ no_count text error fails = go (is_unsigned_in 0 (2 ^ 64 - 1) text) refl
     go true is =
         let parts = both _ _ is in
         let small = from_64_bits (digits_value 10 (without_leading_plus text)) parts.1 in
+        absurd (fails (numeral_from (without_leading_plus text) parts.0, omega arith))
+
+within_8_bits : (n : ℕ) → n < 2 ^ 8 → (nat_lt n (2 ^ 64) && (nat_le 0 n && nat_le n 255)) ≡ true
+within_8_bits n below = grind (arith, nat_tests)
+
+from_8_bits : (n : ℕ) → (nat_lt n (2 ^ 64) && (nat_le 0 n && nat_le n 255)) ≡ true → n < 2 ^ 8
+from_8_bits n passes = grind (arith, nat_tests)
+
+pub some_status : (text : Text) (n : ℕ) → IsNumeral 10 (without_leading_plus text) → n ≡ digits_value 10 (without_leading_plus text) → n < 2 ^ 8 → Some n ≡ status_in text
+some_status text n numeral is below =
+    let digits = without_leading_plus text in
+    let passes = within_8_bits (digits_value 10 digits) (rw (← is) below) in
+    rw (numeral_passes digits numeral, passes) (ap Some is)
+
+pub no_status : {E : Type 0} (text : Text) (error : E) → ParsesUnsigned 8 10 text (Err error) → None ≡ status_in text
+no_status text error fails = go (is_unsigned_in 0 255 text) refl
+  where
+    go : (passes : Bool) → is_unsigned_in 0 255 text ≡ passes → None ≡ status_in text
+    go false is = rw is refl
+    go true is =
+        let parts = both _ _ is in
+        let small = from_8_bits (digits_value 10 (without_leading_plus text)) parts.1 in
         absurd (fails (numeral_from (without_leading_plus text) parts.0, omega arith))

@@ -10,7 +10,7 @@ use Rattle.words.specs.declared.lint.LintForm.TheVariants as lint_forms
 use Rattle.words.specs.declared.show.Picture.TheVariants as pictures
 use Rattle.words.specs.declared.show.ThemeWord.TheVariants.{Auto, Dark}
 use Rattle.words.specs.declared.watch.LineForm.TheVariants as line_forms
-use Rattle.words.specs.Words.{Check, Completion, Explain, Lint, Manual, Safe, Show, Tower, Version, Watch, asked, command_line, is_no_option}
+use Rattle.words.specs.Words.{Check, Completion, Explain, Lint, Manual, Safe, Show, Tower, Version, Watch, asked, command_line, is_no_option, no_demand}
 
 pub input : (program : Text) → asked (program ∷ codes "safe" ∷ []) ≡ Some (Safe None)
 unfolding clap_on_literals
@@ -90,47 +90,47 @@ unfolding clap_on_literals
 taken = (refl, refl, refl, refl, refl)
 
 pub plain_check : (program : Text) → asked (program ∷ codes "check" ∷ codes "--tower" ∷ codes "t" ∷ codes "a" ∷ [])
-    ≡ Some (Check (record { tower = codes "t"; shards = 1; moments = Index; order = None; form = Report; only_failing = false; least = 0; least_each = 0; traces = codes "a" ∷ [] }))
+    ≡ Some (Check (record { tower = codes "t"; shards = 1; moments = Index; order = None; form = Report; only_failing = false; demand = no_demand; traces = codes "a" ∷ [] }))
 unfolding clap_on_literals
 plain_check program = refl
 
-pub whole_check : (program : Text) → asked (program ∷ codes "check" ∷ codes "--tower" ∷ codes "t" ∷ codes "--shards" ∷ codes "64" ∷ codes "--moment" ∷ codes "time" ∷ codes "--order" ∷ codes "x" ∷ codes "--as" ∷ codes "summary" ∷ codes "--least" ∷ codes "7" ∷ codes "--least-each" ∷ codes "1" ∷ codes "a" ∷ [])
-    ≡ Some (Check (record { tower = codes "t"; shards = 64; moments = Time; order = Some (codes "x"); form = Summary; only_failing = false; least = 7; least_each = 1; traces = codes "a" ∷ [] }))
+pub whole_check : (program : Text) → asked (program ∷ codes "check" ∷ codes "--tower" ∷ codes "t" ∷ codes "--shards" ∷ codes "64" ∷ codes "--moment" ∷ codes "time" ∷ codes "--order" ∷ codes "x" ∷ codes "--as" ∷ codes "summary" ∷ codes "--least" ∷ codes "7" ∷ codes "--least-each" ∷ codes "1" ∷ codes "--doubt" ∷ codes "3" ∷ codes "a" ∷ [])
+    ≡ Some (Check (record { tower = codes "t"; shards = 64; moments = Time; order = Some (codes "x"); form = Summary; only_failing = false; demand = record { least = 7; least_each = 1; doubt = 3 }; traces = codes "a" ∷ [] }))
 unfolding clap_on_literals
 whole_check program = refl
 
 pub two_traces : (program : Text) → asked (program ∷ codes "check" ∷ codes "--tower" ∷ codes "t" ∷ codes "a" ∷ codes "b" ∷ [])
-    ≡ Some (Check (record { tower = codes "t"; shards = 1; moments = Index; order = None; form = Report; only_failing = false; least = 0; least_each = 0; traces = codes "a" ∷ codes "b" ∷ [] }))
+    ≡ Some (Check (record { tower = codes "t"; shards = 1; moments = Index; order = None; form = Report; only_failing = false; demand = no_demand; traces = codes "a" ∷ codes "b" ∷ [] }))
 unfolding clap_on_literals
 two_traces program = refl
 
 pub between_traces : (program : Text) → asked (program ∷ codes "check" ∷ codes "a" ∷ codes "--shards=+2" ∷ codes "b" ∷ codes "--tower=t" ∷ codes "--moment=index" ∷ codes "a" ∷ [])
-    ≡ Some (Check (record { tower = codes "t"; shards = 2; moments = Index; order = None; form = Report; only_failing = false; least = 0; least_each = 0; traces = codes "a" ∷ codes "b" ∷ codes "a" ∷ [] }))
+    ≡ Some (Check (record { tower = codes "t"; shards = 2; moments = Index; order = None; form = Report; only_failing = false; demand = no_demand; traces = codes "a" ∷ codes "b" ∷ codes "a" ∷ [] }))
 unfolding clap_on_literals
 between_traces program = refl
 
 pub json_check : (program : Text) → asked (program ∷ codes "check" ∷ codes "--tower=t" ∷ codes "--as=json" ∷ codes "a" ∷ [])
-    ≡ Some (Check (record { tower = codes "t"; shards = 1; moments = Index; order = None; form = Json; only_failing = false; least = 0; least_each = 0; traces = codes "a" ∷ [] }))
+    ≡ Some (Check (record { tower = codes "t"; shards = 1; moments = Index; order = None; form = Json; only_failing = false; demand = no_demand; traces = codes "a" ∷ [] }))
 unfolding clap_on_literals
 json_check program = refl
 
 pub edn_check : (program : Text) → asked (program ∷ codes "check" ∷ codes "--tower=t" ∷ codes "--as" ∷ codes "edn" ∷ codes "a" ∷ [])
-    ≡ Some (Check (record { tower = codes "t"; shards = 1; moments = Index; order = None; form = Edn; only_failing = false; least = 0; least_each = 0; traces = codes "a" ∷ [] }))
+    ≡ Some (Check (record { tower = codes "t"; shards = 1; moments = Index; order = None; form = Edn; only_failing = false; demand = no_demand; traces = codes "a" ∷ [] }))
 unfolding clap_on_literals
 edn_check program = refl
 
 pub failing_check : (program : Text) → asked (program ∷ codes "check" ∷ codes "--tower=t" ∷ codes "--as=json" ∷ codes "--only" ∷ codes "failing" ∷ codes "a" ∷ [])
-    ≡ Some (Check (record { tower = codes "t"; shards = 1; moments = Index; order = None; form = Json; only_failing = true; least = 0; least_each = 0; traces = codes "a" ∷ [] }))
+    ≡ Some (Check (record { tower = codes "t"; shards = 1; moments = Index; order = None; form = Json; only_failing = true; demand = no_demand; traces = codes "a" ∷ [] }))
 unfolding clap_on_literals
 failing_check program = refl
 
-pub whole_records : (program : Text) → asked (program ∷ codes "check" ∷ codes "--tower" ∷ codes "t" ∷ codes "--shards" ∷ codes "64" ∷ codes "--moment" ∷ codes "time" ∷ codes "--order" ∷ codes "x" ∷ codes "--as" ∷ codes "edn" ∷ codes "--only" ∷ codes "failing" ∷ codes "--least" ∷ codes "7" ∷ codes "--least-each" ∷ codes "1" ∷ codes "a" ∷ [])
-    ≡ Some (Check (record { tower = codes "t"; shards = 64; moments = Time; order = Some (codes "x"); form = Edn; only_failing = true; least = 7; least_each = 1; traces = codes "a" ∷ [] }))
+pub whole_records : (program : Text) → asked (program ∷ codes "check" ∷ codes "--tower" ∷ codes "t" ∷ codes "--shards" ∷ codes "64" ∷ codes "--moment" ∷ codes "time" ∷ codes "--order" ∷ codes "x" ∷ codes "--as" ∷ codes "edn" ∷ codes "--only" ∷ codes "failing" ∷ codes "--least" ∷ codes "7" ∷ codes "--least-each" ∷ codes "1" ∷ codes "--doubt" ∷ codes "3" ∷ codes "a" ∷ [])
+    ≡ Some (Check (record { tower = codes "t"; shards = 64; moments = Time; order = Some (codes "x"); form = Edn; only_failing = true; demand = record { least = 7; least_each = 1; doubt = 3 }; traces = codes "a" ∷ [] }))
 unfolding clap_on_literals
 whole_records program = refl
 
 pub any_names : (program tower order trace : Text) → asked (program ∷ codes "check" ∷ (codes "--tower=" ++ tower) ∷ (codes "--order=" ++ order) ∷ codes "--" ∷ trace ∷ [])
-    ≡ Some (Check (record { tower = tower; shards = 1; moments = Index; order = Some order; form = Report; only_failing = false; least = 0; least_each = 0; traces = trace ∷ [] }))
+    ≡ Some (Check (record { tower = tower; shards = 1; moments = Index; order = Some order; form = Report; only_failing = false; demand = no_demand; traces = trace ∷ [] }))
 unfolding clap_on_literals
 any_names program tower order trace = refl
 
@@ -169,17 +169,17 @@ unfolding clap_on_literals
 no_shell program = refl
 
 pub plain_watch : (program : Text) → asked (program ∷ codes "watch" ∷ codes "--tower" ∷ codes "t" ∷ codes "a" ∷ [])
-    ≡ Some (Watch (record { tower = codes "t"; shards = 1; moments = Index; form = line_forms.Text; until_fail = false; settle = 0; traces = codes "a" ∷ [] }))
+    ≡ Some (Watch (record { tower = codes "t"; shards = 1; moments = Index; form = line_forms.Text; until_fail = false; settle = 0; demand = no_demand; traces = codes "a" ∷ [] }))
 unfolding clap_on_literals
 plain_watch program = refl
 
-pub whole_watch : (program : Text) → asked (program ∷ codes "watch" ∷ codes "--tower=t" ∷ codes "--moment" ∷ codes "time" ∷ codes "--shards" ∷ codes "64" ∷ codes "--as" ∷ codes "json" ∷ codes "--until-fail" ∷ codes "--settle" ∷ codes "7" ∷ codes "a" ∷ codes "b" ∷ [])
-    ≡ Some (Watch (record { tower = codes "t"; shards = 64; moments = Time; form = line_forms.Json; until_fail = true; settle = 7; traces = codes "a" ∷ codes "b" ∷ [] }))
+pub whole_watch : (program : Text) → asked (program ∷ codes "watch" ∷ codes "--tower=t" ∷ codes "--moment" ∷ codes "time" ∷ codes "--shards" ∷ codes "64" ∷ codes "--as" ∷ codes "json" ∷ codes "--until-fail" ∷ codes "--settle" ∷ codes "7" ∷ codes "--least" ∷ codes "5" ∷ codes "--least-each" ∷ codes "2" ∷ codes "--doubt" ∷ codes "0" ∷ codes "a" ∷ codes "b" ∷ [])
+    ≡ Some (Watch (record { tower = codes "t"; shards = 64; moments = Time; form = line_forms.Json; until_fail = true; settle = 7; demand = record { least = 5; least_each = 2; doubt = 0 }; traces = codes "a" ∷ codes "b" ∷ [] }))
 unfolding clap_on_literals
 whole_watch program = refl
 
 pub any_names_to_watch : (program tower trace : Text) → asked (program ∷ codes "watch" ∷ (codes "--tower=" ++ tower) ∷ codes "--" ∷ trace ∷ [])
-    ≡ Some (Watch (record { tower = tower; shards = 1; moments = Index; form = line_forms.Text; until_fail = false; settle = 0; traces = trace ∷ [] }))
+    ≡ Some (Watch (record { tower = tower; shards = 1; moments = Index; form = line_forms.Text; until_fail = false; settle = 0; demand = no_demand; traces = trace ∷ [] }))
 unfolding clap_on_literals
 any_names_to_watch program tower trace = refl
 
@@ -215,27 +215,27 @@ unfolding clap_on_literals
 taken_watch = refl
 
 pub plain_show : (program : Text) → asked (program ∷ codes "show" ∷ codes "--tower" ∷ codes "t" ∷ codes "a" ∷ [])
-    ≡ Some (Show (record { tower = codes "t"; moments = Index; register = None; picture = pictures.Text; around = 3; all = false; width = None; theme = Auto; traces = codes "a" ∷ [] }))
+    ≡ Some (Show (record { tower = codes "t"; moments = Index; register = None; picture = pictures.Text; around = 3; all = false; width = None; theme = Auto; demand = no_demand; traces = codes "a" ∷ [] }))
 unfolding clap_on_literals
 plain_show program = refl
 
-pub whole_show : (program : Text) → asked (program ∷ codes "show" ∷ codes "--tower=t" ∷ codes "--moment" ∷ codes "time" ∷ codes "--register" ∷ codes "x" ∷ codes "--html" ∷ codes "--around" ∷ codes "0" ∷ codes "--all" ∷ codes "--width" ∷ codes "72" ∷ codes "--theme" ∷ codes "dark" ∷ codes "a" ∷ codes "b" ∷ [])
-    ≡ Some (Show (record { tower = codes "t"; moments = Time; register = Some (codes "x"); picture = pictures.Html; around = 0; all = true; width = Some 72; theme = Dark; traces = codes "a" ∷ codes "b" ∷ [] }))
+pub whole_show : (program : Text) → asked (program ∷ codes "show" ∷ codes "--tower=t" ∷ codes "--moment" ∷ codes "time" ∷ codes "--register" ∷ codes "x" ∷ codes "--html" ∷ codes "--around" ∷ codes "0" ∷ codes "--all" ∷ codes "--width" ∷ codes "72" ∷ codes "--theme" ∷ codes "dark" ∷ codes "--least" ∷ codes "5" ∷ codes "--least-each" ∷ codes "2" ∷ codes "--doubt" ∷ codes "255" ∷ codes "a" ∷ codes "b" ∷ [])
+    ≡ Some (Show (record { tower = codes "t"; moments = Time; register = Some (codes "x"); picture = pictures.Html; around = 0; all = true; width = Some 72; theme = Dark; demand = record { least = 5; least_each = 2; doubt = 255 }; traces = codes "a" ∷ codes "b" ∷ [] }))
 unfolding clap_on_literals
 whole_show program = refl
 
 pub svg : (program : Text) → asked (program ∷ codes "show" ∷ codes "--tower=t" ∷ codes "--svg" ∷ codes "a" ∷ [])
-    ≡ Some (Show (record { tower = codes "t"; moments = Index; register = None; picture = pictures.Svg; around = 3; all = false; width = None; theme = Auto; traces = codes "a" ∷ [] }))
+    ≡ Some (Show (record { tower = codes "t"; moments = Index; register = None; picture = pictures.Svg; around = 3; all = false; width = None; theme = Auto; demand = no_demand; traces = codes "a" ∷ [] }))
 unfolding clap_on_literals
 svg program = refl
 
 pub ascii : (program : Text) → asked (program ∷ codes "show" ∷ codes "a" ∷ codes "--ascii" ∷ codes "--tower=t" ∷ [])
-    ≡ Some (Show (record { tower = codes "t"; moments = Index; register = None; picture = pictures.Ascii; around = 3; all = false; width = None; theme = Auto; traces = codes "a" ∷ [] }))
+    ≡ Some (Show (record { tower = codes "t"; moments = Index; register = None; picture = pictures.Ascii; around = 3; all = false; width = None; theme = Auto; demand = no_demand; traces = codes "a" ∷ [] }))
 unfolding clap_on_literals
 ascii program = refl
 
 pub any_names_to_show : (program tower register trace : Text) → asked (program ∷ codes "show" ∷ (codes "--tower=" ++ tower) ∷ (codes "--register=" ++ register) ∷ codes "--" ∷ trace ∷ [])
-    ≡ Some (Show (record { tower = tower; moments = Index; register = Some register; picture = pictures.Text; around = 3; all = false; width = None; theme = Auto; traces = trace ∷ [] }))
+    ≡ Some (Show (record { tower = tower; moments = Index; register = Some register; picture = pictures.Text; around = 3; all = false; width = None; theme = Auto; demand = no_demand; traces = trace ∷ [] }))
 unfolding clap_on_literals
 any_names_to_show program tower register trace = refl
 

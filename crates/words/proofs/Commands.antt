@@ -8,11 +8,12 @@ use Rattle.clap.specs.Words.{App, HasMatchesOf, Row, Text, first_of, found_of, i
 use Rattle.clap.specs.declared.ArgMatches.{ArgMatches}
 use Rattle.words.specs.declared.check.ReportForm.{ReportForm}
 use Rattle.jepsen_form.specs.declared.item.MomentField.{MomentField}
+use Rattle.words.specs.declared.demand.Demand.{Demand}
 use Rattle.words.specs.declared.lint.LintForm.{LintForm}
 use Rattle.words.specs.declared.show.Picture.{Picture}
 use Rattle.words.specs.declared.show.ThemeWord.{ThemeWord}
 use Rattle.words.specs.declared.watch.LineForm.{LineForm}
-use Rattle.words.specs.Words.{Asked, AskedCheck, AskedLint, AskedShow, AskedWatch, asked_by, check_by, command_by, command_line, count_in, form_in, is_set, line_form_in, lint_by, lint_form_in, moments_in, only_by, picture_by, said_in, shards_in, show_by, theme_in, traces_in, watch_by}
+use Rattle.words.specs.Words.{Asked, AskedCheck, AskedLint, AskedShow, AskedWatch, asked_by, check_by, command_by, command_line, count_in, demand_by, form_in, is_set, line_form_in, lint_by, lint_form_in, moments_in, only_by, picture_by, said_in, shards_in, show_by, theme_in, traces_in, watch_by}
 
 one_by_one : {A B C : Type 0} (f : B → C) (g : A → B) (found : Option A) → option_map f (option_map g found) ≡ option_map (λ a. f (g a)) found
 one_by_one f g None = refl
@@ -36,34 +37,34 @@ pub asks_command : (matches found : ArgMatches) (name : Text) (asked : Option As
 asks_command matches found name asked named has is = rw (entered matches name (rows_of (found_of found)) named has) is
 
 -- a check whose arguments are all there
-pub is_check : (rows : List Row) (tower : Text) (shards : ℕ) (moments : MomentField) (order : Option Text) (form : ReportForm) (only_failing : Bool) (least least_each : ℕ) (traces : List Text) → first_of (codes "tower") rows ≡ Some tower → Some shards ≡ said_in shards_in (codes "shards") rows
-    → Some moments ≡ said_in moments_in (codes "moment") rows → first_of (codes "order") rows ≡ order → Some form ≡ said_in form_in (codes "as") rows → Some only_failing ≡ only_by form rows → Some least ≡ said_in count_in (codes "least") rows → Some least_each ≡ said_in count_in (codes "least-each") rows
+pub is_check : (rows : List Row) (tower : Text) (shards : ℕ) (moments : MomentField) (order : Option Text) (form : ReportForm) (only_failing : Bool) (demand : Demand) (traces : List Text) → first_of (codes "tower") rows ≡ Some tower → Some shards ≡ said_in shards_in (codes "shards") rows
+    → Some moments ≡ said_in moments_in (codes "moment") rows → first_of (codes "order") rows ≡ order → Some form ≡ said_in form_in (codes "as") rows → Some only_failing ≡ only_by form rows → Some demand ≡ demand_by rows
     → traces ≡ traces_in rows → (length traces == 0) ≡ false
-    → ◌≡◌ {A = Option AskedCheck} (Some (record { tower = tower; shards = shards; moments = moments; order = order; form = form; only_failing = only_failing; least = least; least_each = least_each; traces = traces })) (check_by rows)
-is_check rows tower shards moments order form only_failing least least_each traces tower_is shards_is moments_is order_is form_is only_is least_is each_is traces_are some =
-    rw (tower_is, ← shards_is, ← moments_is, ← form_is, ← only_is, ← least_is, ← each_is, ← traces_are, some, order_is) refl
+    → ◌≡◌ {A = Option AskedCheck} (Some (record { tower = tower; shards = shards; moments = moments; order = order; form = form; only_failing = only_failing; demand = demand; traces = traces })) (check_by rows)
+is_check rows tower shards moments order form only_failing demand traces tower_is shards_is moments_is order_is form_is only_is demand_is traces_are some =
+    rw (tower_is, ← shards_is, ← moments_is, ← form_is, ← only_is, ← demand_is, ← traces_are, some, order_is) refl
 
 pub no_tower : (rows : List Row) → first_of (codes "tower") rows ≡ None → ◌≡◌ {A = Option AskedCheck} None (check_by rows)
 no_tower rows none = rw none refl
 
 -- a watch whose arguments are all there
-pub is_watch : (rows : List Row) (tower : Text) (moments : MomentField) (shards : ℕ) (form : LineForm) (until_fail : Bool) (settle : ℕ) (traces : List Text) → first_of (codes "tower") rows ≡ Some tower → Some moments ≡ said_in moments_in (codes "moment") rows
+pub is_watch : (rows : List Row) (tower : Text) (moments : MomentField) (shards : ℕ) (form : LineForm) (until_fail : Bool) (settle : ℕ) (demand : Demand) (traces : List Text) → first_of (codes "tower") rows ≡ Some tower → Some moments ≡ said_in moments_in (codes "moment") rows
     → Some shards ≡ said_in shards_in (codes "shards") rows → Some form ≡ said_in line_form_in (codes "as") rows → until_fail ≡ is_set (codes "until-fail") rows
-    → Some settle ≡ said_in count_in (codes "settle") rows → traces ≡ traces_in rows → (length traces == 0) ≡ false
-    → ◌≡◌ {A = Option AskedWatch} (Some (record { tower = tower; shards = shards; moments = moments; form = form; until_fail = until_fail; settle = settle; traces = traces })) (watch_by rows)
-is_watch rows tower moments shards form until_fail settle traces tower_is moments_is shards_is form_is until_is settle_is traces_are some =
-    rw (tower_is, ← moments_is, ← shards_is, ← form_is, ← settle_is, ← traces_are, some, ← until_is) refl
+    → Some settle ≡ said_in count_in (codes "settle") rows → Some demand ≡ demand_by rows → traces ≡ traces_in rows → (length traces == 0) ≡ false
+    → ◌≡◌ {A = Option AskedWatch} (Some (record { tower = tower; shards = shards; moments = moments; form = form; until_fail = until_fail; settle = settle; demand = demand; traces = traces })) (watch_by rows)
+is_watch rows tower moments shards form until_fail settle demand traces tower_is moments_is shards_is form_is until_is settle_is demand_is traces_are some =
+    rw (tower_is, ← moments_is, ← shards_is, ← form_is, ← settle_is, ← demand_is, ← traces_are, some, ← until_is) refl
 
 pub no_tower_to_watch : (rows : List Row) → first_of (codes "tower") rows ≡ None → ◌≡◌ {A = Option AskedWatch} None (watch_by rows)
 no_tower_to_watch rows none = rw none refl
 
 -- a picture whose arguments are all there
-pub is_show : (rows : List Row) (tower : Text) (moments : MomentField) (register : Option Text) (picture : Picture) (around : ℕ) (all : Bool) (width : Option ℕ) (theme : ThemeWord) (traces : List Text) → first_of (codes "tower") rows ≡ Some tower → Some moments ≡ said_in moments_in (codes "moment") rows
-    → first_of (codes "register") rows ≡ register → Some picture ≡ picture_by rows → Some around ≡ said_in count_in (codes "around") rows → all ≡ is_set (codes "all") rows → width ≡ said_in count_in (codes "width") rows → Some theme ≡ said_in theme_in (codes "theme") rows
+pub is_show : (rows : List Row) (tower : Text) (moments : MomentField) (register : Option Text) (picture : Picture) (around : ℕ) (all : Bool) (width : Option ℕ) (theme : ThemeWord) (demand : Demand) (traces : List Text) → first_of (codes "tower") rows ≡ Some tower → Some moments ≡ said_in moments_in (codes "moment") rows
+    → first_of (codes "register") rows ≡ register → Some picture ≡ picture_by rows → Some around ≡ said_in count_in (codes "around") rows → all ≡ is_set (codes "all") rows → width ≡ said_in count_in (codes "width") rows → Some theme ≡ said_in theme_in (codes "theme") rows → Some demand ≡ demand_by rows
     → traces ≡ traces_in rows → (length traces == 0) ≡ false
-    → ◌≡◌ {A = Option AskedShow} (Some (record { tower = tower; moments = moments; register = register; picture = picture; around = around; all = all; width = width; theme = theme; traces = traces })) (show_by rows)
-is_show rows tower moments register picture around all width theme traces tower_is moments_is register_is picture_is around_is all_is width_is theme_is traces_are some =
-    rw (tower_is, ← moments_is, ← picture_is, ← around_is, ← theme_is, ← traces_are, some, register_is, ← all_is, ← width_is) refl
+    → ◌≡◌ {A = Option AskedShow} (Some (record { tower = tower; moments = moments; register = register; picture = picture; around = around; all = all; width = width; theme = theme; demand = demand; traces = traces })) (show_by rows)
+is_show rows tower moments register picture around all width theme demand traces tower_is moments_is register_is picture_is around_is all_is width_is theme_is demand_is traces_are some =
+    rw (tower_is, ← moments_is, ← picture_is, ← around_is, ← theme_is, ← demand_is, ← traces_are, some, register_is, ← all_is, ← width_is) refl
 
 pub no_tower_to_show : (rows : List Row) → first_of (codes "tower") rows ≡ None → ◌≡◌ {A = Option AskedShow} None (show_by rows)
 no_tower_to_show rows none = rw none refl

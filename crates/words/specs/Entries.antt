@@ -14,7 +14,7 @@ use Rattle.words.specs.declared.argument.ArgumentEntry.{ArgumentEntry}
 use Rattle.words.specs.declared.argument.Takes.{Takes}
 use Rattle.words.specs.declared.argument.Takes.TheVariants.{Nothing, Text, Number, Place, Places}
 use Rattle.words.specs.declared.cli.CommandEntry.{CommandEntry}
-use Rattle.words.specs.Words.{amiss_rule, any_tower_rule, any_traces_rule, count_rule, deny_rule, flag_rule, form_rule, moment_rule, only_rule, order_rule, register_rule, shards_rule, shell_rule, theme_rule, tower_rule, traces_rule, width_rule}
+use Rattle.words.specs.Words.{amiss_rule, any_tower_rule, any_traces_rule, count_rule, deny_rule, doubt_rule, flag_rule, form_rule, moment_rule, only_rule, order_rule, register_rule, shards_rule, shell_rule, theme_rule, tower_rule, traces_rule, width_rule}
 
 -- the rule of an argument
 abbrev pub argument_rule : Argument → Rule
@@ -33,6 +33,7 @@ argument_rule arguments.LintForm = amiss_rule
 argument_rule arguments.Only = only_rule
 argument_rule arguments.Least = count_rule (codes "least") (codes "0")
 argument_rule arguments.LeastEach = count_rule (codes "least-each") (codes "0")
+argument_rule arguments.Doubt = doubt_rule
 argument_rule arguments.UntilFail = flag_rule (codes "until-fail")
 argument_rule arguments.Settle = count_rule (codes "settle") (codes "0")
 argument_rule arguments.Register = register_rule

@@ -14,6 +14,7 @@ use Rattle.words.specs.declared.check.ReportForm.{ReportForm}
 use Rattle.words.specs.declared.check.ReportForm.TheVariants.{Report, Summary, Json, Edn}
 use Rattle.jepsen_form.specs.declared.item.MomentField.{MomentField}
 use Rattle.jepsen_form.specs.declared.item.MomentField.TheVariants.{Index, Time}
+use Rattle.words.specs.declared.demand.Demand.{Demand}
 use Rattle.words.specs.declared.lint.Lint.{Lint as HeldLint}
 use Rattle.words.specs.declared.lint.LintForm.{LintForm}
 use Rattle.words.specs.declared.lint.LintForm.TheVariants as lint_forms
@@ -62,26 +63,31 @@ count_rule name default = record (new_rule name) { long = Some name; value_names
 abbrev pub traces_rule : Rule
 traces_rule = record (new_rule (codes "TRACE")) { range = Some (record { start_inclusive = 1; end_inclusive = usize_max }); required = true }
 
--- a command, with `--least`, `--least-each` and `TRACE..` added
-abbrev pub with_counts : App → App
-with_counts options = with_rule (with_rule (with_rule options (count_rule (codes "least") (codes "0"))) (count_rule (codes "least-each") (codes "0"))) traces_rule
+-- the option `--doubt STATUS`, from 0 to 255; 1 where it is not given
+abbrev pub doubt_rule : Rule
+doubt_rule = record (new_rule (codes "doubt")) { long = Some (codes "doubt"); value_names = 1; defaults = codes "1" ∷ []; parser = Some (parsers.Unsigned 0 255) }
+
+-- a command, with `--least`, `--least-each`, `--doubt` and `TRACE..` added
+abbrev pub with_demand : App → App
+with_demand options = with_rule (with_rule (with_rule (with_rule options (count_rule (codes "least") (codes "0"))) (count_rule (codes "least-each") (codes "0"))) doubt_rule) traces_rule
 
 -- `check --tower FILE [--shards N] [--moment FIELD] [--order NAME] [--as FORM] [--only WHICH] [--least N]
--- [--least-each N] TRACE..`
+-- [--least-each N] [--doubt STATUS] TRACE..`
 abbrev pub check_line : App
-check_line = with_counts (with_rule (with_rule (with_rule (with_rule (with_rule (with_rule (new_app (codes "check")) tower_rule) shards_rule) moment_rule) order_rule) form_rule) only_rule)
+check_line = with_demand (with_rule (with_rule (with_rule (with_rule (with_rule (with_rule (new_app (codes "check")) tower_rule) shards_rule) moment_rule) order_rule) form_rule) only_rule)
 
 -- the flag `--NAME` of this name
 abbrev pub flag_rule : Text → Rule
 flag_rule name = record (new_rule name) { long = Some name; action = Some SetTrue }
 
--- a command, with `--as`, `--until-fail`, `--settle` and `TRACE..` added
+-- a command, with `--as`, `--until-fail` and `--settle` added
 abbrev pub with_watch_options : App → App
-with_watch_options options = with_rule (with_rule (with_rule (with_rule options form_rule) (flag_rule (codes "until-fail"))) (count_rule (codes "settle") (codes "0"))) traces_rule
+with_watch_options options = with_rule (with_rule (with_rule options form_rule) (flag_rule (codes "until-fail"))) (count_rule (codes "settle") (codes "0"))
 
--- `watch --tower FILE [--moment FIELD] [--shards N] [--as FORM] [--until-fail] [--settle N] TRACE..`
+-- `watch --tower FILE [--moment FIELD] [--shards N] [--as FORM] [--until-fail] [--settle N] [--least N] [--least-each N]
+-- [--doubt STATUS] TRACE..`
 abbrev pub watch_line : App
-watch_line = with_watch_options (with_rule (with_rule (with_rule (new_app (codes "watch")) tower_rule) moment_rule) shards_rule)
+watch_line = with_demand (with_watch_options (with_rule (with_rule (with_rule (new_app (codes "watch")) tower_rule) moment_rule) shards_rule))
 
 -- the option `--register NAME`
 abbrev pub register_rule : Rule
@@ -99,15 +105,15 @@ theme_rule = record (new_rule (codes "theme")) { long = Some (codes "theme"); va
 abbrev pub with_pictures : App → App
 with_pictures options = with_rule (with_rule (with_rule options (flag_rule (codes "svg"))) (flag_rule (codes "html"))) (flag_rule (codes "ascii"))
 
--- a command, with `--around`, `--all`, `--width`, `--theme` and `TRACE..` added
+-- a command, with `--around`, `--all`, `--width` and `--theme` added
 abbrev pub with_show_options : App → App
 with_show_options options =
-    with_rule (with_rule (with_rule (with_rule (with_rule options (count_rule (codes "around") (codes "3"))) (flag_rule (codes "all"))) width_rule) theme_rule) traces_rule
+    with_rule (with_rule (with_rule (with_rule options (count_rule (codes "around") (codes "3"))) (flag_rule (codes "all"))) width_rule) theme_rule
 
 -- `show --tower FILE [--moment FIELD] [--register NAME] [--svg] [--html] [--ascii] [--around N] [--all] [--width N]
--- [--theme THEME] TRACE..`
+-- [--theme THEME] [--least N] [--least-each N] [--doubt STATUS] TRACE..`
 abbrev pub show_line : App
-show_line = with_show_options (with_pictures (with_rule (with_rule (with_rule (new_app (codes "show")) tower_rule) moment_rule) register_rule))
+show_line = with_demand (with_show_options (with_pictures (with_rule (with_rule (with_rule (new_app (codes "show")) tower_rule) moment_rule) register_rule)))
 
 -- the option `--tower FILE`, which may be left out
 abbrev pub any_tower_rule : Rule
@@ -181,6 +187,10 @@ with_audits line = with_subcommand (with_subcommand (with_subcommand (with_subco
 abbrev pub command_line : App
 command_line = with_subcommand (with_texts (with_files (with_audits program_line))) completion_line.top
 
+-- nothing has to be met, and the status of a failure is 1
+abbrev pub no_demand : Demand
+no_demand = record { least = 0; least_each = 0; doubt = 1 }
+
 -- what the words of `check` ask for
 pub record AskedCheck : Type 0 where
   pub tower : Text
@@ -189,8 +199,7 @@ pub record AskedCheck : Type 0 where
   pub order : Option Text
   pub form : ReportForm
   pub only_failing : Bool
-  pub least : ℕ
-  pub least_each : ℕ
+  pub demand : Demand
   pub traces : List Text
 
 -- what the words of `watch` ask for
@@ -201,6 +210,7 @@ pub record AskedWatch : Type 0 where
   pub form : LineForm
   pub until_fail : Bool
   pub settle : ℕ
+  pub demand : Demand
   pub traces : List Text
 
 -- what the words of `show` ask for
@@ -213,6 +223,7 @@ pub record AskedShow : Type 0 where
   pub all : Bool
   pub width : Option ℕ
   pub theme : ThemeWord
+  pub demand : Demand
   pub traces : List Text
 
 -- what the words of `lint` ask for
@@ -313,20 +324,30 @@ is_set name rows = option_map_or (λ value. bytes_eq value (codes "true")) (firs
 abbrev pub only_by : ReportForm → List Row → Option Bool
 only_by form rows = option_map_or (only_in form) (first_of (codes "only") rows) (Some false)
 
+-- the status that a text gives: digits, after a plus or none, from 0 to 255
+abbrev pub status_in : Text → Option ℕ
+status_in text = if is_unsigned_in 0 255 text then Some (digits_value 10 (without_leading_plus text)) else None
+
+-- what has to be met by these arguments, or none
+abbrev pub demand_by : List Row → Option Demand
+demand_by rows =
+    option_and_then (λ least. option_and_then (λ least_each. option_map (λ doubt. record { least = least; least_each = least_each; doubt = doubt })
+    (said_in status_in (codes "doubt") rows))
+    (said_in count_in (codes "least-each") rows))
+    (said_in count_in (codes "least") rows)
+
 -- what `check` asks for by these values and the other arguments; none where they name no trace
-abbrev pub check_of : Text → ℕ → MomentField → ReportForm → Bool → ℕ → ℕ → List Row → Option AskedCheck
-check_of tower shards moments form only_failing least least_each rows =
+abbrev pub check_of : Text → ℕ → MomentField → ReportForm → Bool → Demand → List Row → Option AskedCheck
+check_of tower shards moments form only_failing demand rows =
     if length (traces_in rows) == 0 then None
-    else Some (record { tower = tower; shards = shards; moments = moments; order = first_of (codes "order") rows; form = form; only_failing = only_failing; least = least; least_each = least_each; traces = traces_in rows })
+    else Some (record { tower = tower; shards = shards; moments = moments; order = first_of (codes "order") rows; form = form; only_failing = only_failing; demand = demand; traces = traces_in rows })
 
 -- what `check` asks for by these arguments, or none
 abbrev pub check_by : List Row → Option AskedCheck
 check_by rows =
     option_and_then (λ tower. option_and_then (λ shards. option_and_then (λ moments. option_and_then (λ form.
-    option_and_then (λ only_failing. option_and_then (λ least. option_and_then (λ least_each.
-    check_of tower shards moments form only_failing least least_each rows)
-    (said_in count_in (codes "least-each") rows))
-    (said_in count_in (codes "least") rows))
+    option_and_then (λ only_failing. option_and_then (λ demand. check_of tower shards moments form only_failing demand rows)
+    (demand_by rows))
     (only_by form rows))
     (said_in form_in (codes "as") rows))
     (said_in moments_in (codes "moment") rows))
@@ -334,16 +355,17 @@ check_by rows =
     (first_of (codes "tower") rows)
 
 -- what `watch` asks for by these values and the other arguments; none where they name no trace
-abbrev pub watch_of : Text → MomentField → ℕ → LineForm → ℕ → List Row → Option AskedWatch
-watch_of tower moments shards form settle rows =
+abbrev pub watch_of : Text → MomentField → ℕ → LineForm → ℕ → Demand → List Row → Option AskedWatch
+watch_of tower moments shards form settle demand rows =
     if length (traces_in rows) == 0 then None
-    else Some (record { tower = tower; shards = shards; moments = moments; form = form; until_fail = is_set (codes "until-fail") rows; settle = settle; traces = traces_in rows })
+    else Some (record { tower = tower; shards = shards; moments = moments; form = form; until_fail = is_set (codes "until-fail") rows; settle = settle; demand = demand; traces = traces_in rows })
 
 -- what `watch` asks for by these arguments, or none
 abbrev pub watch_by : List Row → Option AskedWatch
 watch_by rows =
     option_and_then (λ tower. option_and_then (λ moments. option_and_then (λ shards. option_and_then (λ form.
-    option_and_then (λ settle. watch_of tower moments shards form settle rows)
+    option_and_then (λ settle. option_and_then (λ demand. watch_of tower moments shards form settle demand rows)
+    (demand_by rows))
     (said_in count_in (codes "settle") rows))
     (said_in line_form_in (codes "as") rows))
     (said_in shards_in (codes "shards") rows))
@@ -355,16 +377,17 @@ abbrev pub picture_by : List Row → Option Picture
 picture_by rows = picture_in (is_set (codes "svg") rows) (is_set (codes "html") rows) (is_set (codes "ascii") rows)
 
 -- what `show` asks for by these values and the other arguments; none where they name no trace
-abbrev pub show_of : Text → MomentField → Picture → ℕ → ThemeWord → List Row → Option AskedShow
-show_of tower moments picture around theme rows =
+abbrev pub show_of : Text → MomentField → Picture → ℕ → ThemeWord → Demand → List Row → Option AskedShow
+show_of tower moments picture around theme demand rows =
     if length (traces_in rows) == 0 then None
-    else Some (record { tower = tower; moments = moments; register = first_of (codes "register") rows; picture = picture; around = around; all = is_set (codes "all") rows; width = said_in count_in (codes "width") rows; theme = theme; traces = traces_in rows })
+    else Some (record { tower = tower; moments = moments; register = first_of (codes "register") rows; picture = picture; around = around; all = is_set (codes "all") rows; width = said_in count_in (codes "width") rows; theme = theme; demand = demand; traces = traces_in rows })
 
 -- what `show` asks for by these arguments, or none
 abbrev pub show_by : List Row → Option AskedShow
 show_by rows =
     option_and_then (λ tower. option_and_then (λ moments. option_and_then (λ picture. option_and_then (λ around.
-    option_and_then (λ theme. show_of tower moments picture around theme rows)
+    option_and_then (λ theme. option_and_then (λ demand. show_of tower moments picture around theme demand rows)
+    (demand_by rows))
     (said_in theme_in (codes "theme") rows))
     (said_in count_in (codes "around") rows))
     (picture_by rows))
@@ -430,8 +453,7 @@ asked_check check = record {
   order = option_map (λ name. name.now) check.order;
   form = check.form;
   only_failing = check.only_failing;
-  least = check.least;
-  least_each = check.least_each;
+  demand = check.demand;
   traces = map (λ name. name.now) check.traces.items;
 }
 
@@ -444,6 +466,7 @@ asked_watch watch = record {
   form = watch.form;
   until_fail = watch.until_fail;
   settle = watch.settle;
+  demand = watch.demand;
   traces = map (λ name. name.now) watch.traces.items;
 }
 
@@ -458,6 +481,7 @@ asked_show show = record {
   all = show.all;
   width = show.width;
   theme = show.theme;
+  demand = show.demand;
   traces = map (λ name. name.now) show.traces.items;
 }
 

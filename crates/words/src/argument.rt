@@ -30,6 +30,7 @@ pub(crate) enum Argument {
     Only,
     Least,
     LeastEach,
+    Doubt,
     UntilFail,
     Settle,
     Register,
@@ -98,6 +99,7 @@ impl Argument {
             Argument::Only => &ONLY,
             Argument::Least => &LEAST,
             Argument::LeastEach => &LEAST_EACH,
+            Argument::Doubt => &DOUBT,
             Argument::UntilFail => &UNTIL_FAIL,
             Argument::Settle => &SETTLE,
             Argument::Register => &REGISTER,
@@ -262,6 +264,15 @@ static LEAST_EACH: ArgumentEntry = ArgumentEntry {
     name: "least-each",
     defaults: &["0"],
     help: "Ends with status 4 where fewer operations stand in some register",
+    ..COUNT
+};
+
+static DOUBT: ArgumentEntry = ArgumentEntry {
+    name: "doubt",
+    takes: Takes::Number(0, 255),
+    value_names: &["STATUS"],
+    defaults: &["1"],
+    help: "The status where registers fail, and each failure rests on an element that was left out",
     ..COUNT
 };
 

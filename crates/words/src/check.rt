@@ -5,6 +5,7 @@ ghost use Rattle.std.specs.Option.{option_map};
 ghost use Rattle.clap.specs.Words.{found_of, rows_of};
 ghost use Rattle.words.specs.Words.{asked_check, check_by, count_in, form_in, has_records, moments_in, only_by, only_in, said_in, shards_in, traces_in};
 
+use crate::demand::{Demand, demand_of};
 use clap::ArgMatches;
 use jepsen_form::MomentField;
 use std::alloc::{AllocError, Global};
@@ -24,7 +25,7 @@ pub enum ReportForm {
 
 impl ReportForm {
     /// Whether records are printed.
-    fn has_records(self) -> bool
+    pub fn has_records(self) -> bool
         ensures { result ≡ has_records self }
     {
         match self {
@@ -47,10 +48,7 @@ pub struct Check<'a> {
     pub form: ReportForm,
     /// Whether only the registers that fail have a record.
     pub only_failing: bool,
-    /// How many operations have to stand in all registers together, at least.
-    pub least: u64,
-    /// How many operations have to stand in each register, at least.
-    pub least_each: u64,
+    pub demand: Demand,
     /// One or more.
     pub traces: Vec<&'a str>,
 }
@@ -79,10 +77,7 @@ pub(crate) fn check_of<'a>(
     let Some(only_failing) = only_of(form, found) else {
         return Ok(None);
     };
-    let Some(least) = count_of(found, "least") else {
-        return Ok(None);
-    };
-    let Some(least_each) = count_of(found, "least-each") else {
+    let Some(demand) = demand_of(found) else {
         return Ok(None);
     };
     let traces = traces_of(alloc, found)?;
@@ -96,8 +91,7 @@ pub(crate) fn check_of<'a>(
         order: found.get_str("order"),
         form,
         only_failing,
-        least,
-        least_each,
+        demand,
         traces,
     }))
 }

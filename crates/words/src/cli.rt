@@ -46,6 +46,7 @@ static COMMANDS: [CommandEntry; 10] = [
             Argument::Only,
             Argument::Least,
             Argument::LeastEach,
+            Argument::Doubt,
             Argument::Traces,
         ],
     },
@@ -61,6 +62,9 @@ static COMMANDS: [CommandEntry; 10] = [
             Argument::LineForm,
             Argument::UntilFail,
             Argument::Settle,
+            Argument::Least,
+            Argument::LeastEach,
+            Argument::Doubt,
             Argument::Traces,
         ],
     },
@@ -80,6 +84,9 @@ static COMMANDS: [CommandEntry; 10] = [
             Argument::All,
             Argument::Width,
             Argument::ThemeWord,
+            Argument::Least,
+            Argument::LeastEach,
+            Argument::Doubt,
             Argument::Traces,
         ],
     },
@@ -144,7 +151,7 @@ static COMMANDS: [CommandEntry; 10] = [
 /// The end of the help of the program and of most commands: the statuses, and where the formats are described.
 const STATUSES: &str = "Exit status:
   0  every register holds and nothing was refused, or the tower is listed
-  1  a register fails
+  1  a register fails, or as --doubt says
   2  a trace is broken, or nothing could be read, judged or written
   3  no register fails, and an element was refused
   4  no register fails, and fewer operations stand than --least or --least-each says
@@ -192,9 +199,10 @@ A trace is read to its end. A file that still grows comes through a pipe:
 const WATCH_STATUSES: &str =
     "Exit status, which is 1 at the first register that fails where --until-fail is given:
   0  every register holds and nothing was refused
-  1  a register fails
+  1  a register fails, or as --doubt says
   2  a trace is broken, or nothing could be read, judged or written
   3  no register fails, and an element was refused
+  4  no register fails, and fewer operations stand than --least or --least-each says
 
 docs/FORMATS.md describes traces, tower files and what is printed.";
 

@@ -98,17 +98,17 @@ _regaudit() {
             completion:completion) words='bash zsh fish' ;;
             check:*)
                 if [[ $begun == -* ]]; then
-                    words='--tower --shards --moment --order --as --only --least --least-each --help'
+                    words='--tower --shards --moment --order --as --only --least --least-each --doubt --help'
                 fi
                 ;;
             watch:*)
                 if [[ $begun == -* ]]; then
-                    words='--tower --moment --shards --as --until-fail --settle --help'
+                    words='--tower --moment --shards --as --until-fail --settle --least --least-each --doubt --help'
                 fi
                 ;;
             show:*)
                 if [[ $begun == -* ]]; then
-                    words='--tower --moment --register --svg --html --ascii --around --all --width --theme --help'
+                    words='--tower --moment --register --svg --html --ascii --around --all --width --theme --least --least-each --doubt --help'
                 fi
                 ;;
             lint:*)
@@ -186,6 +186,7 @@ _regaudit() {
                         '--only=[which registers have a record]:registers:(failing)' \
                         '--least=[status 4 where fewer operations stand]:number: ' \
                         '--least-each=[status 4 where fewer stand in a register]:number: ' \
+                        '--doubt=[the status where each failure rests on what was left out]:status: ' \
                         '(- *)'{-h,--help}'[prints help]' \
                         '*:trace:_files'
                     ;;
@@ -197,6 +198,9 @@ _regaudit() {
                         '--as=[what is written]:form:(text json)' \
                         '--until-fail[ends at the first register that fails]' \
                         '--settle=[for how many elements a failure is held back]:number: ' \
+                        '--least=[status 4 where fewer operations stand]:number: ' \
+                        '--least-each=[status 4 where fewer stand in a register]:number: ' \
+                        '--doubt=[the status where each failure rests on what was left out]:status: ' \
                         '(- *)'{-h,--help}'[prints help]' \
                         '*:trace:_files'
                     ;;
@@ -212,6 +216,9 @@ _regaudit() {
                         '--all[shows all operations]' \
                         '--width=[how wide lines or rows may be]:number: ' \
                         '--theme=[the colours of a picture]:theme:(auto light dark)' \
+                        '--least=[status 4 where fewer operations stand]:number: ' \
+                        '--least-each=[status 4 where fewer stand in a register]:number: ' \
+                        '--doubt=[the status where each failure rests on what was left out]:status: ' \
                         '(- *)'{-h,--help}'[prints help]' \
                         '*:trace:_files'
                     ;;
@@ -292,8 +299,9 @@ complete -c regaudit -n '__regaudit_is check' -l moment -x -a 'index time' -d 't
 complete -c regaudit -n '__regaudit_is check' -l order -x -a '(__regaudit_registers)' -d 'prints an order of this register'
 complete -c regaudit -n '__regaudit_is check' -l as -x -a 'text summary json edn' -d 'how the report is printed'
 complete -c regaudit -n '__regaudit_is check' -l only -x -a failing -d 'which registers have a record'
-complete -c regaudit -n '__regaudit_is check' -l least -x -d 'status 4 where fewer operations stand'
-complete -c regaudit -n '__regaudit_is check' -l least-each -x -d 'status 4 where fewer stand in a register'
+complete -c regaudit -n '__regaudit_is check watch show' -l least -x -d 'status 4 where fewer operations stand'
+complete -c regaudit -n '__regaudit_is check watch show' -l least-each -x -d 'status 4 where fewer stand in a register'
+complete -c regaudit -n '__regaudit_is check watch show' -l doubt -x -d 'the status where each failure rests on what was left out'
 complete -c regaudit -n '__regaudit_is watch' -l tower -rF -d 'the tower file'
 complete -c regaudit -n '__regaudit_is watch' -l moment -x -a 'index time' -d 'the field that moments stand under'
 complete -c regaudit -n '__regaudit_is watch' -l shards -x -a '1 2 4 8 16 32 64' -d 'over how many shards the registers are spread'

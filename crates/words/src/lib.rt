@@ -2,10 +2,11 @@
 //!
 //! ```text
 //! regaudit check --tower FILE [--shards N] [--moment index|time] [--order NAME]
-//!     [--as text|summary|json|edn] [--only failing] [--least N] [--least-each N] TRACE..
-//! regaudit watch --tower FILE [--moment index|time] [--shards N] [--as text|json] [--until-fail] TRACE..
+//!     [--as text|summary|json|edn] [--only failing] [--least N] [--least-each N] [--doubt STATUS] TRACE..
+//! regaudit watch --tower FILE [--moment index|time] [--shards N] [--as text|json] [--until-fail] [--settle N]
+//!     [--least N] [--least-each N] [--doubt STATUS] TRACE..
 //! regaudit show --tower FILE [--moment index|time] [--register NAME] [--svg|--html|--ascii] [--around N] [--all]
-//!     [--width N] [--theme auto|light|dark] TRACE..
+//!     [--width N] [--theme auto|light|dark] [--least N] [--least-each N] [--doubt STATUS] TRACE..
 //! regaudit lint [--tower FILE] [--moment index|time] [--as human|short|github|json] [--max N] [--deny CODES]
 //!     [TRACE..]
 //! regaudit safe [TRACE]
@@ -25,8 +26,7 @@
 //!         order: None,
 //!         form: ReportForm::Report,
 //!         only_failing: false,
-//!         least: 0,
-//!         least_each: 0,
+//!         demand: Demand { least: 0, least_each: 0, doubt: 1 },
 //!         traces: ["a.edn", "b.edn"],
 //!     }))
 //! read_words(alloc, &["regaudit", "safe"])                 Ok(Command::Safe(None))
@@ -41,6 +41,7 @@ mod argument;
 mod check;
 mod cli;
 mod completion;
+mod demand;
 pub mod laws;
 mod lint;
 mod manual;
@@ -50,6 +51,7 @@ mod words;
 
 pub use check::{Check, ReportForm};
 pub use completion::Shell;
+pub use demand::Demand;
 pub use lint::{Lint, LintForm};
 pub use manual::help_of_all;
 pub use show::{Picture, Show, ThemeWord};

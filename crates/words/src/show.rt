@@ -6,6 +6,7 @@ ghost use Rattle.clap.specs.Words.{found_of, rows_of};
 ghost use Rattle.words.specs.Words.{asked_show, is_set, picture_by, picture_in, said_in, show_by, theme_in};
 
 use crate::check::{count_of, moments_of, traces_of};
+use crate::demand::{Demand, demand_of};
 use clap::ArgMatches;
 use jepsen_form::MomentField;
 use std::alloc::{AllocError, Global};
@@ -48,6 +49,7 @@ pub struct Show<'a> {
     /// How wide lines or rows may be, in characters or units; where none is given, 100 characters or 1000 units.
     pub width: Option<u64>,
     pub theme: ThemeWord,
+    pub demand: Demand,
     /// One or more.
     pub traces: Vec<&'a str>,
 }
@@ -75,6 +77,9 @@ pub(crate) fn show_of<'a>(
     let Some(theme) = theme_of(found) else {
         return Ok(None);
     };
+    let Some(demand) = demand_of(found) else {
+        return Ok(None);
+    };
     let traces = traces_of(alloc, found)?;
     if traces.is_empty() {
         return Ok(None);
@@ -88,6 +93,7 @@ pub(crate) fn show_of<'a>(
         all: is_set(found, "all"),
         width: count_of(found, "width"),
         theme,
+        demand,
         traces,
     }))
 }

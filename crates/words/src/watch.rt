@@ -6,6 +6,7 @@ ghost use Rattle.clap.specs.Words.{found_of, rows_of};
 ghost use Rattle.words.specs.Words.{asked_watch, line_form_in, said_in, watch_by};
 
 use crate::check::{count_of, moments_of, shards_of, traces_of};
+use crate::demand::{Demand, demand_of};
 use crate::show::is_set;
 use clap::ArgMatches;
 use jepsen_form::MomentField;
@@ -33,6 +34,7 @@ pub struct Watch<'a> {
     pub until_fail: bool,
     /// For how many more elements of each trace a failure is held back.
     pub settle: u64,
+    pub demand: Demand,
     /// One or more.
     pub traces: Vec<&'a str>,
 }
@@ -61,6 +63,9 @@ pub(crate) fn watch_of<'a>(
     let Some(settle) = count_of(found, "settle") else {
         return Ok(None);
     };
+    let Some(demand) = demand_of(found) else {
+        return Ok(None);
+    };
     let traces = traces_of(alloc, found)?;
     if traces.is_empty() {
         return Ok(None);
@@ -72,6 +77,7 @@ pub(crate) fn watch_of<'a>(
         form,
         until_fail: is_set(found, "until-fail"),
         settle,
+        demand,
         traces,
     }))
 }

@@ -8,7 +8,7 @@ ghost use Rattle.clap.specs.Values.{kind_of};
 ghost use Rattle.clap.specs.Faults.{fault_of};
 ghost use Rattle.clap.specs.declared.error.kind.ErrorKind.TheVariants.{OutOfMemory};
 ghost use Rattle.words.specs.Completion.{shell_named};
-ghost use Rattle.words.specs.Words.{HasShards, HasTraces, IsWellFormed, ask_version, asked, asked_of, asked_by, command_by, command_line, is_version_word, said_in};
+ghost use Rattle.words.specs.Words.{Check as ACheck, HasShards, HasTraces, IsWellFormed, Lint as ALint, Show as AShow, Watch as AWatch, ask_version, asked, asked_by, asked_of, check_by, command_by, command_line, is_version_word, lint_by, said_in, show_by, watch_by};
 
 use crate::check::{Check, check_of};
 use crate::cli::{Vocabulary, command_line, command_named};
@@ -147,30 +147,74 @@ fn command_of<'a>(
         return Ok(None);
     };
     if name == "check" {
-        return Ok(match check_of(alloc, found)? {
-            Some(check) => Some(Command::Check(check)),
-            None => None,
-        });
+        return check_command(alloc, found);
     }
     if name == "watch" {
-        return Ok(match watch_of(alloc, found)? {
-            Some(watch) => Some(Command::Watch(watch)),
-            None => None,
-        });
+        return watch_command(alloc, found);
     }
     if name == "show" {
-        return Ok(match show_of(alloc, found)? {
-            Some(show) => Some(Command::Show(show)),
-            None => None,
-        });
+        return show_command(alloc, found);
     }
     if name == "lint" {
-        return Ok(match lint_of(alloc, found)? {
-            Some(lint) => Some(Command::Lint(lint)),
-            None => None,
-        });
+        return lint_command(alloc, found);
     }
     Ok(other_command(name, found))
+}
+
+fn check_command<'a>(
+    alloc: Global,
+    found: &ArgMatches<'a>,
+) -> Result<Option<Command<'a>>, AllocError>
+    ensures asks { IfOk result (λ command. option_map asked_of command ≡ option_map ACheck (check_by (rows_of (found_of found.now)))) }
+    ensures shards { IfOk result (λ command. IfSome command HasShards) }
+    ensures traces { IfOk result (λ command. IfSome command HasTraces) }
+{
+    match check_of(alloc, found)? {
+        Some(check) => Ok(Some(Command::Check(check))),
+        None => Ok(None),
+    }
+}
+
+fn watch_command<'a>(
+    alloc: Global,
+    found: &ArgMatches<'a>,
+) -> Result<Option<Command<'a>>, AllocError>
+    ensures asks { IfOk result (λ command. option_map asked_of command ≡ option_map AWatch (watch_by (rows_of (found_of found.now)))) }
+    ensures shards { IfOk result (λ command. IfSome command HasShards) }
+    ensures traces { IfOk result (λ command. IfSome command HasTraces) }
+{
+    match watch_of(alloc, found)? {
+        Some(watch) => Ok(Some(Command::Watch(watch))),
+        None => Ok(None),
+    }
+}
+
+fn show_command<'a>(
+    alloc: Global,
+    found: &ArgMatches<'a>,
+) -> Result<Option<Command<'a>>, AllocError>
+    ensures asks { IfOk result (λ command. option_map asked_of command ≡ option_map AShow (show_by (rows_of (found_of found.now)))) }
+    ensures shards { IfOk result (λ command. IfSome command HasShards) }
+    ensures traces { IfOk result (λ command. IfSome command HasTraces) }
+{
+    match show_of(alloc, found)? {
+        Some(show) => Ok(Some(Command::Show(show))),
+        None => Ok(None),
+    }
+}
+
+fn lint_command<'a>(
+    alloc: Global,
+    found: &ArgMatches<'a>,
+) -> Result<Option<Command<'a>>, AllocError>
+    ensures asks { IfOk result (λ command. option_map asked_of command ≡ option_map ALint (lint_by (rows_of (found_of found.now)))) }
+    ensures shards { IfOk result (λ command. IfSome command HasShards) }
+    ensures traces { IfOk result (λ command. IfSome command HasTraces) }
+{
+    match lint_of(alloc, found)? {
+        Some(lint) => Ok(Some(Command::Lint(lint))),
+        None => Ok(None),
+    }
 }
 
 /// The command of this name, other than `check`, `watch`, `show` and `lint`.

@@ -1,7 +1,8 @@
-use Rattle.std.proofs.Common.{Vec, map, refl, ℕ}
+use Rattle.std.proofs.Common.{Bool, Vec, map, refl, subst, ℕ}
 use Rattle.std.specs.declared.alloc.Global.{Global}
-use Rattle.words.specs.Words.{asked_check}
+use Rattle.words.specs.Words.{asked_check, has_records}
 use Rattle.command_parts.specs.Files.{AreHeld}
+use Rattle.command_parts.specs.Kept.{AreKeptIf}
 use Rattle.check_command.proofs.Endings.{checked}
 use Rattle.command_parts.proofs.Readings.{held_later}
 use Rattle.check_command.proofs.checking.check.Goals as goal
@@ -23,6 +24,6 @@ returns-in-Ok-print-clause-checked g c =
     c.in_ok-tower.ensures.named
     (λ known held. c.in_ok-tower.ensures.held known (held_later files files asked.traces.items c.deref.result.now known refl c.deref.ensures.value held))
     c.in-Ok.ensures.run
-    c.in-Ok.ensures.kept
+    (subst (λ (keeps : Bool). AreKeptIf keeps (map g.F.Reader.Read.remaining opened.readers.items) run.logs.items kept) c.has_records.ensures c.in-Ok.ensures.kept)
     c.in-Ok-print.ensures.printed
     c.in-Ok-status_after.ensures

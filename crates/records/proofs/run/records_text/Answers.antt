@@ -68,7 +68,7 @@ returns-clause-records c =
         are_places = c.in_ok-places.ensures;
         records_are = refl;
       };
-      text_is = is.2 ∙ sym (all_lines (record_line form.notation) (head_record names.tower (length tower.registers) names.traces names.moments) (end_of_records form.status (totals_of tower findings logs))
+      text_is = is.2 ∙ sym (all_lines (record_line form.notation) (head_record names.tower (length tower.registers) names.traces names.moments) (end_of_records form.status (totals_of tower findings logs) names.least)
           (registers_records places tower (fails_of findings) doubts form.only_failing 0 findings allowed) (logs_records places tower.registers 0 logs) (asked_records tower.registers is.0));
     })
     c.text_of.ensures.text

@@ -1,9 +1,11 @@
 -- the subject has what the tower says of the register and what its book has
-use Rattle.std.proofs.Common.{◌≡◌}
+use Rattle.std.proofs.Common.{◌≡◌, ◌∙◌, List, ap, subst, sym}
 use Rattle.std.specs.Prelude.{IfSome}
 use Rattle.std.specs.List.{slice_get}
 use Rattle.phrases.specs.Names.{register_name}
-use Rattle.show_command.specs.Drawn.{IsInitialOf}
+use Rattle.intervals.specs.declared.operation.OpId.{OpId}
+use Rattle.intervals.specs.Table.{ops_in_slots}
+use Rattle.show_command.specs.Drawn.{IsDrawnOrder, IsInitialOf}
 use Rattle.show_command.proofs.Subjects.{is_named, is_unnamed, is_said_at_first, nothing_is_said}
 use Rattle.show_command.proofs.picture.subject_of.Goals.{in-Some, in-None, in-Some-claim, in-None-claim}
 use Rattle.show_command.proofs.picture.subject_of.Goals as goal
@@ -24,8 +26,8 @@ returns c =
       name = name;
       kind = c.kind.ensures;
       initial = initial;
-      ops = c.slots.ensures;
+      ops = ap ops_in_slots c.deref.ensures.value ∙ c.requires.slots;
       witness = c.witness.ensures.witness;
       none = c.witness.ensures.none;
-      order = c.requires.order;
+      order = subst (λ (ids : List OpId). IsDrawnOrder c.args.book.now ids) (sym c.deref-2.ensures.value) c.requires.order;
     }

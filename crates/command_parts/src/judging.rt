@@ -1,11 +1,11 @@
-//! Judges the registers of a tower by what readers give, and keeps that where records are asked for.
+//! Judges the registers of a tower by what readers give, and keeps that where it is asked for.
 
 ghost use Rattle.std.specs.Prelude.{◌≡◌, ◌≤◌, IfOk, map, vec_len};
 ghost use Rattle.command_parts.specs.Job.{IsRunOver};
-ghost use Rattle.check_command.specs.Kept.{AreTracesKept, AreKeptIn};
+ghost use Rattle.command_parts.specs.Kept.{AreKeptIf, AreTracesKept};
 
+use crate::job::Job;
 use crate::kept::texts_of;
-use command_parts::Job;
 use feeders::RunFault;
 use logs::Run;
 use places::{Copies, Originals, copied_to};
@@ -13,29 +13,29 @@ use std::io::Read;
 use std::marker::Brand;
 use std::sync::Wait;
 use std::thread::Threads;
-use words::ReportForm;
 
-/// A run, and the texts of its traces, by number, where records are asked for; else none.
+/// A run, and the texts of its traces, by number, where they are kept; else none.
 #[derive(Drop)]
 pub struct Judged<'x> {
     pub run: Run<'x>,
     pub texts: Vec<Vec<u8>>,
 }
 
-/// Feeds what each reader gives to the registers of the tower, and keeps it where records are asked for: these name
-/// the lines and the bytes of elements.
+/// Feeds what each reader gives to the registers of the tower, and keeps it where `keeps` is set, for the lines and the
+/// bytes of elements.
 pub fn judge<'x, A: AllocGlobal + Threads + Wait + Sync, S: Read + Drop + Send>(
     job: &Job<'_, 'x, A>,
-    form: ReportForm,
+    keeps: bool,
     readers: Vec<S>,
 ) -> Result<Judged<'x>, RunFault>
     requires readers { (1 ≤ vec_len readers) × (vec_len readers ≤ 256) }
     ensures run { IfOk result (λ judged. IsRunOver job.now.tower.now job.now.moments job.now.shards (map S.remaining readers.items) judged.run.closed judged.run.logs.items) }
-    ensures kept { IfOk result (λ judged. AreKeptIn form (map S.remaining readers.items) judged.run.logs.items (map (λ text. text.items) judged.texts.items)) }
+    ensures kept { IfOk result (λ judged. AreKeptIf keeps (map S.remaining readers.items) judged.run.logs.items (map (λ text. text.items) judged.texts.items)) }
 {
-    match form {
-        ReportForm::Report | ReportForm::Summary => judge_uncopied(job, readers),
-        ReportForm::Json | ReportForm::Edn => judge_copied::<A, S, Brand>(job, readers),
+    if keeps {
+        judge_copied::<A, S, Brand>(job, readers)
+    } else {
+        judge_uncopied(job, readers)
     }
 }
 

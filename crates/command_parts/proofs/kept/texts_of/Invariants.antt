@@ -3,8 +3,8 @@ use Rattle.std.proofs.Common.{◌≡◌, ◌++◌, ℕ, List, Vec, map}
 use Rattle.std.specs.Vec.Iter.{into_iter_items}
 use Rattle.std.specs.declared.alloc.Global.{Global}
 use Rattle.places.specs.declared.copying.Kept.{Kept}
-use Rattle.check_command.proofs.KeptTexts.{AreTextsOf}
-use Rattle.check_command.proofs.kept.texts_of.Given as goal
+use Rattle.command_parts.proofs.KeptTexts.{AreTextsOf}
+use Rattle.command_parts.proofs.kept.texts_of.Given as goal
 
 abbrev pub invariant-loop-one : goal.invariant-loop-one
 invariant-loop-one l =

@@ -3,8 +3,8 @@ use Rattle.std.proofs.lemmas.List.{length-map}
 use Rattle.std.specs.declared.alloc.Global.{Global}
 use Rattle.logs.specs.declared.log.Log.{Log}
 use Rattle.places.specs.Copied.{AreCopiesOf}
-use Rattle.check_command.specs.Kept.{AreTracesKept}
-use Rattle.check_command.proofs.judging.judge_copied.Goals as goal
+use Rattle.command_parts.specs.Kept.{AreTracesKept}
+use Rattle.command_parts.proofs.judging.judge_copied.Goals as goal
 
 pub returns-clause-kept : goal.returns-clause-kept
 returns-clause-kept g c =

@@ -1,12 +1,10 @@
--- The texts that `check` keeps of traces, for the places of elements that records name.
-use Rattle.std.specs.Prelude.{◌≡◌, ◌≤◌, ℕ, true, List, ◌++◌, length, Option, Some, None}
+-- The texts that a command keeps of traces, for the places of elements.
+use Rattle.std.specs.Prelude.{◌≡◌, ◌≤◌, ℕ, Bool, true, false, List, ◌++◌, length, Option, Some, None}
 use Rattle.std.specs.List.{slice_get}
 use Rattle.logs.specs.declared.log.Broken.{Broken}
 use Rattle.logs.specs.declared.log.Log.{Log}
 use Rattle.places.specs.declared.copying.Kept.{Kept}
 use Rattle.places.specs.Copied.{IsKeptOf}
-use Rattle.words.specs.declared.check.ReportForm.{ReportForm}
-use Rattle.words.specs.declared.check.ReportForm.TheVariants.{Report, Summary, Json, Edn}
 
 -- the text is a prefix of what a reader had left, at least up to the byte at which the trace broke
 pub record IsPrefixTo (broken : Broken) (left text : List ℕ) : Type 0 where
@@ -33,9 +31,7 @@ pub record AreTracesKept (lefts : List (Option (List ℕ))) (logs : List Log) (t
   pub many : length texts ≡ length lefts
   pub each : (trace : ℕ) (left : List ℕ) (log : Log) (text : List ℕ) → slice_get lefts trace ≡ Some (Some left) → slice_get logs trace ≡ Some log → slice_get texts trace ≡ Some text → IsKeptTo log.broken left text
 
--- a text is kept of each trace where records are asked for
-abbrev pub AreKeptIn : ReportForm → List (Option (List ℕ)) → List Log → List (List ℕ) → Type 0
-AreKeptIn Report lefts logs texts = Unit {0}
-AreKeptIn Summary lefts logs texts = Unit {0}
-AreKeptIn Json lefts logs texts = AreTracesKept lefts logs texts
-AreKeptIn Edn lefts logs texts = AreTracesKept lefts logs texts
+-- a text is kept of each trace where that is asked for
+abbrev pub AreKeptIf : Bool → List (Option (List ℕ)) → List Log → List (List ℕ) → Type 0
+AreKeptIf true lefts logs texts = AreTracesKept lefts logs texts
+AreKeptIf false lefts logs texts = Unit {0}

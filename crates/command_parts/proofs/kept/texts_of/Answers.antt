@@ -4,10 +4,10 @@ use Rattle.std.specs.declared.alloc.Global.{Global}
 use Rattle.std.specs.List.{slice_get}
 use Rattle.std.specs.Vec.Iter.{into_iter_items}
 use Rattle.logs.specs.declared.log.Log.{Log}
-use Rattle.check_command.specs.Kept.{IsTextOf}
+use Rattle.command_parts.specs.Kept.{IsTextOf}
 use Rattle.places.specs.declared.copying.Kept.{Kept}
-use Rattle.check_command.proofs.KeptTexts.{AreTextsOf, are_kept, one_more}
-use Rattle.check_command.proofs.kept.texts_of.Goals as goal
+use Rattle.command_parts.proofs.KeptTexts.{AreTextsOf, are_kept, one_more}
+use Rattle.command_parts.proofs.kept.texts_of.Goals as goal
 
 pub loop-one-preserved : goal.loop-one-preserved
 loop-one-preserved c =

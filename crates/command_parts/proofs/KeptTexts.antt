@@ -6,7 +6,7 @@ use Rattle.logs.specs.declared.log.Log.{Log}
 use Rattle.places.specs.declared.copying.Kept.{Kept}
 use Rattle.places.specs.Copied.{AreCopiesOf}
 use Rattle.places.proofs.Copied.{pushed}
-use Rattle.check_command.specs.Kept.{AreTracesKept, IsTextOf}
+use Rattle.command_parts.specs.Kept.{AreTracesKept, IsTextOf}
 
 -- the texts are those of the copies, by number
 pub record AreTextsOf (logs : List Log) (kept : List Kept) (texts : List (List ℕ)) : Type 0 where

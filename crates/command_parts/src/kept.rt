@@ -1,10 +1,10 @@
-//! The texts that are kept of traces, for the places of elements that records name.
+//! The texts that are kept of traces, for the places of elements.
 
 ghost use Rattle.std.specs.Prelude.{◌≡◌, ◌↔◌, List, ℕ, Option, Some, IfOk, IsTrue, length, map};
 ghost use Rattle.std.specs.List.{slice_get};
 ghost use Rattle.logs.specs.declared.log.Log.{Log as ALog};
 ghost use Rattle.places.specs.Copied.{AreCopiesOf};
-ghost use Rattle.check_command.specs.Kept.{AreTracesKept, IsEnough, IsTextOf};
+ghost use Rattle.command_parts.specs.Kept.{AreTracesKept, IsEnough, IsTextOf};
 
 use logs::{Broken, Log};
 use places::Kept;
