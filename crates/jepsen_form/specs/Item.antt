@@ -287,19 +287,19 @@ register_or tower (Err other) inner (Err fault) = None
 
 -- the register of an event by what is said under `:value`: where nothing is said, the tower's only one if it is a read or
 -- a write, and none of an event whose `:f` is another word or cannot be read
-abbrev pub register_said : TowerModel → Result Action FormFault → UnderValue → UnderValue → Option RegId
-register_said tower (Ok action) said inner = register_or tower (Ok action) inner (the_register tower said)
-register_said tower (Err fault) NoValue inner = None
-register_said tower (Err fault) (AValue value) inner = register_or tower (Err fault) inner (the_register tower (AValue value))
-register_said tower (Err fault) (NamedValue name value) inner = register_or tower (Err fault) inner (the_register tower (NamedValue name value))
-register_said tower (Err fault) ManyValues inner = register_or tower (Err fault) inner (the_register tower ManyValues)
+abbrev pub register_given : TowerModel → Result Action FormFault → UnderValue → UnderValue → Option RegId
+register_given tower (Ok action) said inner = register_or tower (Ok action) inner (the_register tower said)
+register_given tower (Err fault) NoValue inner = None
+register_given tower (Err fault) (AValue value) inner = register_or tower (Err fault) inner (the_register tower (AValue value))
+register_given tower (Err fault) (NamedValue name value) inner = register_or tower (Err fault) inner (the_register tower (NamedValue name value))
+register_given tower (Err fault) ManyValues inner = register_or tower (Err fault) inner (the_register tower ManyValues)
 
 -- what can be read of an event; the last argument is what its value is (`inner_field`)
 abbrev pub event_gist : TowerModel → Fields → UnderValue → UnderValue → Gist
 event_gist tower found said inner = record {
   answers = process_answered (the_stage found.stage) (process_said found.process);
   of = None;
-  register = register_said tower (the_action found.action) said inner;
+  register = register_given tower (the_action found.action) said inner;
   written = written_of_event (the_stage found.stage) (the_action found.action) inner;
   claims = false;
 }

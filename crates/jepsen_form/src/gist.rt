@@ -5,7 +5,7 @@ ghost use Rattle.edn_reader.specs.Given.{seen};
 ghost use Rattle.jepsen_form.specs.Fields.{IsUnderValue, UnderValue};
 ghost use Rattle.jepsen_form.specs.Form.{seen_all, under_value};
 ghost use Rattle.jepsen_form.specs.Whole.{IsWhole};
-ghost use Rattle.jepsen_form.specs.Item.{edit_gist, event_gist, gist_of, inner_field, known_or_unread, no_gist, process_answered, process_said, register_of_pair, register_or, register_said, says_claim, with_gist, written_if, written_of_event, written_said};
+ghost use Rattle.jepsen_form.specs.Item.{edit_gist, event_gist, gist_of, inner_field, known_or_unread, no_gist, process_answered, process_said, register_of_pair, register_or, register_given, says_claim, with_gist, written_if, written_of_event, written_said};
 
 use crate::edit::{place_edited, register_claimed};
 use crate::element::{given_value, is_given};
@@ -142,7 +142,7 @@ fn event_gist(form: &EventFields, tower: &Tower, said: &ParsedValue, inner: &Par
     Gist {
         answers: process_answered(stage, process_said(&form.process)),
         of: None,
-        register: register_said(tower, action, said, inner),
+        register: register_given(tower, action, said, inner),
         written: written_of_event(stage, action, inner),
         claims: false,
     }
@@ -167,13 +167,13 @@ fn process_answered(stage: Result<Stage, FormFault>, process: Option<i64>) -> Op
     }
 }
 
-fn register_said(
+fn register_given(
     tower: &Tower,
     action: Result<Action, FormFault>,
     said: &ParsedValue,
     inner: &ParsedValue,
 ) -> Option<RegId>
-    ensures { result ≡ register_said tower.now action (under_value said.now) (under_value inner.now) }
+    ensures { result ≡ register_given tower.now action (under_value said.now) (under_value inner.now) }
 {
     match (action, said) {
         (Err(_), ParsedValue::Nothing) => None,

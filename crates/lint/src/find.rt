@@ -97,6 +97,7 @@ fn find_in(context: &Context, text: &[u8], log: &Log) -> Result<TraceFindings, A
         notes,
         unfinished,
         processes,
+        waiting,
     } = notes_of(context, text, &found, log.lines.as_slice())?;
     Ok(TraceFindings {
         spots: found.spots,
@@ -104,6 +105,7 @@ fn find_in(context: &Context, text: &[u8], log: &Log) -> Result<TraceFindings, A
         notes,
         unfinished,
         processes,
+        waiting,
     })
 }
 

@@ -97,6 +97,8 @@ pub struct TraceFindings {
     pub unfinished: Vec<bool>,
     /// The processes of the trace's events.
     pub processes: BTreeSet<i64>,
+    /// For each element, the invocation that its process waited for an answer to, before it.
+    pub waiting: Vec<Option<u64>>,
 }
 
 /// What is found in all traces, by number.

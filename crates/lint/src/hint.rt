@@ -21,11 +21,17 @@ pub fn hint_of(text: &[u8], is_tower: bool) -> Option<Hint> {
     if text.starts_with(b"\x28\xb5\x2f\xfd") {
         return with_code("H2", "it is compressed: give `<(zstdcat FILE)`");
     }
-    if text.starts_with(b"[") {
-        return with_code("H3", "it is one vector: take the outer brackets off");
+    if is_json(text) {
+        return with_code(
+            "H4",
+            "it is JSON: docs/CONVERT.md has a line of jq that writes its events as EDN maps",
+        );
     }
-    if text.starts_with(b"{\"") {
-        return with_code("H4", "it is JSON: write each event as an EDN map");
+    if text.starts_with(b"[") || text.starts_with(b"(") {
+        return with_code(
+            "H3",
+            "it is one vector or list: take the outer brackets off",
+        );
     }
     if !is_tower && text.starts_with(b"{:levels") {
         return with_code("H7", "it is a tower file: give it with `--tower`");
@@ -34,6 +40,15 @@ pub fn hint_of(text: &[u8], is_tower: bool) -> Option<Hint> {
         return with_code("H7", "it is a trace: give it without `--tower`");
     }
     None
+}
+
+/// Whether it begins with an object of JSON whose first key is a string, or an array with one.
+fn is_json(text: &[u8]) -> bool {
+    let inner = match text.strip_prefix(b"[") {
+        Some(inner) => inner.trim_ascii_start(),
+        None => text,
+    };
+    inner.starts_with(b"{\"")
 }
 
 fn with_code(code: &'static str, words: &'static str) -> Option<Hint> {

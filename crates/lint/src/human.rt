@@ -8,12 +8,13 @@ use crate::message::{field_word, push_id, tower_word};
 use crate::notes::rests;
 use crate::snippet::{push_mark, push_plain, width_of};
 use crate::source::SourceText;
-use crate::suggest::{meant_in_element, meant_in_tower, meant_key};
+use crate::suggest::{instead_in_element, meant_in_element, meant_in_tower, meant_key};
 use crate::tally::{Count, Tally};
 use edn_reader::EdnFault;
 use intervals::{Holder, OpId, Refusal};
 use jepsen_form::FormFault;
 use logs::{BreakCode, Code};
+use pairing::PairFault;
 use places::{Location, spot_of_one};
 use std::alloc::{AllocError, Global};
 use tower_file::TowerFault;
@@ -62,7 +63,7 @@ pub fn push_human(
     push_totals(text, &tally)
 }
 
-/// Adds what the failures of a trace rest on, its findings, and then its other notes.
+/// Adds what may help with a trace as a whole, what its failures rest on, its findings, and then its other notes.
 fn push_trace(
     text: &mut String,
     view: &View,
@@ -72,14 +73,14 @@ fn push_trace(
     let Some(found) = view.found.traces.get(trace) else {
         return Ok(());
     };
-    let (first, others) = rests_and_others(found.notes.as_slice());
-    push_cases(text, view, trace, first, tally)?;
-    push_cases(text, view, trace, found.findings.as_slice(), tally)?;
-    push_cases(text, view, trace, others, tally)?;
     if found.findings.is_empty() && found.notes.is_empty() {
         return Ok(());
     }
-    push_hints(text, view, trace, found.spots.is_empty())
+    push_hints(text, view, trace, found.spots.is_empty())?;
+    let (first, others) = rests_and_others(found.notes.as_slice());
+    push_cases(text, view, trace, first, tally)?;
+    push_cases(text, view, trace, found.findings.as_slice(), tally)?;
+    push_cases(text, view, trace, others, tally)
 }
 
 /// The notes that say what a failure rests on, which come first, and the others.
@@ -145,7 +146,7 @@ fn push_cases<'a>(
                 trace,
                 source,
                 finding,
-                width: width_of(last_line(view, finding)),
+                width: width_of(last_line(view, trace, finding)),
                 before: count.shown.saturating_sub(1),
             };
             push_case(text, &case)?;
@@ -197,13 +198,15 @@ fn push_refused(text: &mut String, case: &Case, event: u64, code: &Code) -> Resu
     push_arrow(text, case, &case.finding.spot)?;
     write!(text, "  ({}:{event})", case.trace)?;
     push_gap(text, case.width)?;
-    let (first, second) = met_by(code);
+    let (first, second) = met_in(case.view, case.trace, event, code);
     push_met(text, case, first)?;
     push_met(text, case, second)?;
     push_marked(text, case, " left out")?;
     if let Some(word) = meant_by_refused(case, code)? {
         text.push_str(":")?;
         push_meant(text, word)?;
+    } else {
+        text.push_str(instead(case, code))?;
     }
     text.push_str("\n")?;
     push_covered(text, case, code)
@@ -236,6 +239,18 @@ fn meant_by_refused<'a>(case: &Case<'_, 'a>, code: &Code) -> Result<Option<&'a [
             meant_in_element(case.view.alloc, element, code, last.text)
         }
         _ => Ok(None),
+    }
+}
+
+/// What a refused element has in the place of what it lacks, for the first findings of each code.
+fn instead(case: &Case, code: &Code) -> &'static str {
+    if case.before >= SUGGESTED {
+        return "";
+    }
+    let spot = &case.finding.spot;
+    match case.source.text.get(spot.start..spot.end) {
+        Some(element) => instead_in_element(case.view.alloc, element, code),
+        None => "",
     }
 }
 
@@ -334,6 +349,28 @@ fn beside(trace: usize, note: &Note) -> Option<OpId> {
     }
 }
 
+/// The operations that a refused element meets: those that its register names, or the invocation that its process waits
+/// for an answer to.
+fn met_in(view: &View, trace: usize, event: u64, code: &Code) -> (Option<OpId>, Option<OpId>) {
+    match code {
+        Code::Pair(PairFault::ProcessBusy | PairFault::AnswerMismatch)
+        | Code::Register(Refusal::UnknownOp | Refusal::EndNotAfterBegin) => {
+            (waited_for(view, trace, event), None)
+        }
+        _ => met_by(code),
+    }
+}
+
+/// The invocation that the process of an event waited for an answer to, before it.
+fn waited_for(view: &View, trace: usize, event: u64) -> Option<OpId> {
+    let found = view.found.traces.get(trace)?;
+    let waited = found.waiting.get(event as usize)?;
+    Some(OpId {
+        feeder: u32::try_from(trace).ok()?,
+        event: (*waited)?,
+    })
+}
+
 /// The operations that a refused edit meets.
 fn met_by(code: &Code) -> (Option<OpId>, Option<OpId>) {
     match code {
@@ -362,12 +399,12 @@ fn invocation_of<'a>(view: &View<'a>, id: &OpId) -> Option<(&'a SourceText<'a>, 
     }
 }
 
-/// The greatest line number that is shown with a finding.
-fn last_line(view: &View, finding: &Problem) -> usize {
+/// The greatest line number that is shown with a finding of a trace.
+fn last_line(view: &View, trace: usize, finding: &Problem) -> usize {
     let line = finding.spot.place.line;
     match &finding.what {
-        Amiss::Refused(_, code) => {
-            let (first, second) = met_by(code);
+        Amiss::Refused(event, code) => {
+            let (first, second) = met_in(view, trace, *event, code);
             line.max(line_of(view, first)).max(line_of(view, second))
         }
         Amiss::Broken(_) | Amiss::Tower(_) | Amiss::Noted(..) => line,

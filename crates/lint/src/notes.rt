@@ -28,6 +28,8 @@ pub struct Noted {
     pub unfinished: Vec<bool>,
     /// The processes of the trace's events.
     pub processes: BTreeSet<i64>,
+    /// For each element, the invocation that its process waited for an answer to, before it.
+    pub waiting: Vec<Option<u64>>,
 }
 
 /// What is known of a trace after the elements so far.
@@ -146,6 +148,7 @@ impl<'a> TraceSoFar<'a> {
                 notes: Vec::new(alloc),
                 unfinished: Vec::new(alloc),
                 processes: BTreeSet::new(alloc),
+                waiting: Vec::new(alloc),
             },
         }
     }
@@ -173,6 +176,7 @@ impl<'a> TraceSoFar<'a> {
         seen: &NumberedElement,
     ) -> Result<(), AllocError> {
         self.noted.unfinished.push(false)?;
+        self.noted.waiting.push(None)?;
         if let Some(left_out) = seen.refused {
             if let Some(note) = context
                 .suspects
@@ -226,6 +230,8 @@ impl<'a> TraceSoFar<'a> {
         seen: &NumberedElement,
     ) -> Result<(), AllocError> {
         self.noted.processes.insert(event.process)?;
+        let waited = self.unanswered.get(&event.process).copied();
+        self.set_waiting(seen.number, waited);
         if is_absent(&map.field(b":value")) {
             if wants_value(event) {
                 self.note(seen.number, Note::NoValue)?;
@@ -265,6 +271,12 @@ impl<'a> TraceSoFar<'a> {
     fn set_unfinished(&mut self, number: u64, is_unfinished: bool) {
         if let Some(slot) = self.noted.unfinished.get_mut(number as usize) {
             *slot = is_unfinished;
+        }
+    }
+
+    fn set_waiting(&mut self, number: u64, waited: Option<u64>) {
+        if let Some(slot) = self.noted.waiting.get_mut(number as usize) {
+            *slot = waited;
         }
     }
 

@@ -5,7 +5,7 @@ use crate::nearest::{distance, is_close};
 use crate::snippet::part_of;
 use crate::tower::names_in;
 use edn_reader::{Element, Field, Reader};
-use jepsen_form::FormFault;
+use jepsen_form::{FormFault, FormField};
 use logs::Code;
 use places::Location;
 use std::alloc::{AllocError, Global};
@@ -43,6 +43,36 @@ pub fn meant_in_element<'t>(
         Code::Form(FormFault::UnsupportedF) => meant_under(alloc, &element, b":f", ACTIONS),
         _ => Ok(None),
     }
+}
+
+/// What a refused element has where what it lacks is looked for, or what it is to have there; empty where nothing is known.
+pub fn instead_in_element(alloc: Global, text: &[u8], code: &Code) -> &'static str {
+    let Some(element) = element_in(alloc, text) else {
+        return "";
+    };
+    match code {
+        Code::Form(FormFault::MissingField(FormField::Moment)) => other_moment(&element),
+        Code::Form(FormFault::NoRegister) => unnamed(&element),
+        _ => "",
+    }
+}
+
+fn unnamed(element: &Element) -> &'static str {
+    match name_in(element) {
+        Some(_) => "",
+        None => ": its value names no register, as [NAME VALUE] does",
+    }
+}
+
+/// The field of moments that an element has without the one that is read.
+fn other_moment(element: &Element) -> &'static str {
+    if under(element, b":time").is_some() {
+        return ": it has :time; try --moment time";
+    }
+    if under(element, b":index").is_some() {
+        return ": it has :index; try --moment index";
+    }
+    ""
 }
 
 /// The name of a register of the tower that may have been meant by an element.
@@ -175,13 +205,13 @@ fn under<'t>(element: &Element<'t>, key: &[u8]) -> Option<Element<'t>> {
     }
 }
 
-/// The name that is this one without its quotes, or else the nearest one.
+/// The name that is this one without its quotes or its colon, or else the nearest one.
 fn nearest_name<'t>(
     alloc: Global,
     name: &[u8],
     names: &[&'t [u8]],
 ) -> Result<Option<&'t [u8]>, AllocError> {
-    if let Some(inner) = unquoted(name) {
+    if let Some(inner) = plain(name) {
         for other in names {
             if *other == inner {
                 return Ok(Some(*other));
@@ -191,8 +221,11 @@ fn nearest_name<'t>(
     nearest(alloc, name, names)
 }
 
-/// What is between the quotes of a string.
-fn unquoted(name: &[u8]) -> Option<&[u8]> {
+/// What is between the quotes of a string, or after the colon of a keyword.
+fn plain(name: &[u8]) -> Option<&[u8]> {
+    if let Some(word) = name.strip_prefix(b":") {
+        return Some(word);
+    }
     name.strip_prefix(b"\"")?.strip_suffix(b"\"")
 }
 

@@ -109,6 +109,7 @@ fn one_file(
         notes,
         unfinished: Vec::new(alloc),
         processes: BTreeSet::new(alloc),
+        waiting: Vec::new(alloc),
     })?;
     Ok(Findings {
         traces,

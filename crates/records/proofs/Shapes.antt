@@ -432,16 +432,23 @@ optional_is : {depth : ℕ} (fault : Option Fault) → IsOneValue (suc depth) (o
 optional_is None = alone nothing refl
 optional_is (Some fault) = nested (ids_are fault)
 
-change_is : {depth : ℕ} (name : List ℕ) (feeder event : ℕ) (change : VerdictChange) → IsRecord (suc (suc depth)) (change_symbols name feeder event change)
-unfolding change_symbols changed_symbols fault_field type_symbols place_symbols text_field word_symbols flag_symbols number_symbols
-change_is name feeder event change =
-    between
+regrouped_end : (fault rests : List Symbol) (left : Symbol)
+    → (fault ++ (key (codes "left_out") ∷ left ∷ key (codes "rests_on") ∷ begin_list ∷ (rests ++ end_list ∷ []))) ++ end_record ∷ []
+    ≡ fault ++ (key (codes "left_out") ∷ left ∷ key (codes "rests_on") ∷ begin_list ∷ (rests ++ end_list ∷ end_record ∷ []))
+regrouped_end fault rests left = simp append_assoc
+
+change_is : {depth : ℕ} (name : List ℕ) (feeder event : ℕ) (change : VerdictChange) (left_out rests_on : List (ℕ × ℕ)) → IsRecord (suc (suc depth)) (change_symbols name feeder event change ++ doubt_symbols left_out rests_on)
+unfolding change_symbols changed_symbols fault_field doubt_symbols type_symbols place_symbols text_field word_symbols flag_symbols number_symbols list_symbols end_symbols
+change_is {depth} name feeder event change left_out rests_on =
+    subst (λ (tail : List Symbol). IsRecord (suc (suc depth)) (begin_record ∷ key (codes "t") ∷ word (codes "change") ∷ key (codes "id") ∷ place feeder event ∷ key (codes "register") ∷ text name ∷ key (codes "kind") ∷ word (kind_word change.kind) ∷ key (codes "holds") ∷ flag change.holds ∷ key (codes "operations") ∷ number (decimal change.operations) ∷ key (codes "fault") ∷ tail))
+    (regrouped_end (optional_fault_symbols change.fault) (map (λ at. place at.0 at.1) rests_on) (number (decimal (length left_out))))
+    (between
     (field_is (codes "t") refl (word (codes "change")) refl
     (field_is (codes "id") refl (place feeder event) refl
     (field_is (codes "register") refl (text name) refl
     (field_is (codes "kind") refl (word (kind_word change.kind)) (whole_kind change.kind)
     (field_is (codes "holds") refl (flag change.holds) refl
-    (field_is (codes "operations") refl (number (decimal change.operations)) (whole_number change.operations) (last_field_is (codes "fault") refl (optional_is change.fault))))))))
+    (field_is (codes "operations") refl (number (decimal change.operations)) (whole_number change.operations) (more_fields (codes "fault") refl (optional_is change.fault) (doubt_is left_out rests_on)))))))))
 
 ended_is : {depth : ℕ} (feeder elements : ℕ) → IsRecord (suc depth) (ended_symbols feeder elements)
 unfolding ended_symbols type_symbols number_symbols
@@ -450,8 +457,8 @@ ended_is feeder elements =
     (field_is (codes "t") refl (word (codes "ended")) refl
     (field_is (codes "trace") refl (number (decimal feeder)) (whole_number feeder) (field_is (codes "elements") refl (number (decimal elements)) (whole_number elements) no_field)))
 
-pub notice_is : (registers : List Register) (notice : Notice) → IsRecord 4 (notice_symbols registers notice)
-notice_is registers (notices.Changed feeder event change) = change_is (register_name registers change.register) feeder event change
-notice_is registers (notices.Refused feeder event left_out) = refused_is feeder event left_out.code
-notice_is registers (notices.Broke feeder broken) = broken_is feeder broken
-notice_is registers (notices.Ended feeder elements) = ended_is feeder elements
+pub notice_is : (registers : List Register) (notice : Notice) (left_out rests_on : List (ℕ × ℕ)) → IsRecord 4 (notice_symbols registers notice left_out rests_on)
+notice_is registers (notices.Changed feeder event change) left_out rests_on = change_is (register_name registers change.register) feeder event change left_out rests_on
+notice_is registers (notices.Refused feeder event refused) left_out rests_on = refused_is feeder event refused.code
+notice_is registers (notices.Broke feeder broken) left_out rests_on = broken_is feeder broken
+notice_is registers (notices.Ended feeder elements) left_out rests_on = ended_is feeder elements

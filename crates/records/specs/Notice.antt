@@ -9,6 +9,7 @@ use Rattle.phrases.specs.Names.{kind_word, register_name}
 use Rattle.records.specs.Fault.{fault_head}
 use Rattle.records.specs.Field.{flag_symbols, number_symbols, place_symbols, text_field, type_symbols, word_symbols}
 use Rattle.records.specs.Log.{broken_symbols, refused_symbols}
+use Rattle.records.specs.Register.{doubt_symbols}
 use Rattle.records.specs.Symbol.{Symbol, end_record, key, nothing}
 
 -- the record of a fault by its ids alone
@@ -30,19 +31,20 @@ changed_symbols name change =
 unfoldable pub fault_field : Option Fault → List Symbol
 fault_field fault = (key (codes "fault") ∷ []) ++ optional_fault_symbols fault
 
--- the record of a change of a verdict, with the place of the element that made it
+-- a change of a verdict, with which its record begins, with the place of the element that made it
 unfoldable pub change_symbols : List ℕ → ℕ → ℕ → VerdictChange → List Symbol
 change_symbols name feeder event change =
-    type_symbols (codes "change") ++ place_symbols feeder event ++ changed_symbols name change ++ fault_field change.fault ++ end_record ∷ []
+    type_symbols (codes "change") ++ place_symbols feeder event ++ changed_symbols name change ++ fault_field change.fault
 
 -- the record of the end of a trace: its number, and how many elements it had
 unfoldable pub ended_symbols : ℕ → ℕ → List Symbol
 ended_symbols feeder elements =
     type_symbols (codes "ended") ++ number_symbols (codes "trace") feeder ++ number_symbols (codes "elements") elements ++ end_record ∷ []
 
--- the record of a notice
-abbrev pub notice_symbols : List Register → Notice → List Symbol
-notice_symbols registers (Changed feeder event change) = change_symbols (register_name registers change.register) feeder event change
-notice_symbols registers (Refused feeder event left_out) = refused_symbols feeder event left_out.code
-notice_symbols registers (Broke feeder broken) = broken_symbols feeder broken
-notice_symbols registers (Ended feeder elements) = ended_symbols feeder elements
+-- the record of a notice; that of a change ends with how many elements of its register were left out so far, and those of
+-- them on which its failure rests
+abbrev pub notice_symbols : List Register → Notice → List (ℕ × ℕ) → List (ℕ × ℕ) → List Symbol
+notice_symbols registers (Changed feeder event change) left_out rests_on = change_symbols (register_name registers change.register) feeder event change ++ doubt_symbols left_out rests_on
+notice_symbols registers (Refused feeder event refused) left_out rests_on = refused_symbols feeder event refused.code
+notice_symbols registers (Broke feeder broken) left_out rests_on = broken_symbols feeder broken
+notice_symbols registers (Ended feeder elements) left_out rests_on = ended_symbols feeder elements

@@ -30,7 +30,7 @@ pub fn each_record_is_whole()
     ensures run { (names : RunNames) → is_record_word names.moments ≡ true → (only : Bool) (status : ℕ) (tower : TowerModel) (closed : List ClosedShard)
         → (logs : List Log) (order : Option RegId) (texts : List (List ℕ)) (records : List (List Symbol))
         → AreRecordsOfRun names only status tower closed logs order texts records → All (IsRecord 4) records }
-    ensures notices { (registers : List Register) (notice : Notice) → IsRecord 4 (notice_symbols registers notice) }
+    ensures notices { (registers : List Register) (notice : Notice) (left_out rests_on : List (ℕ × ℕ)) → IsRecord 4 (notice_symbols registers notice left_out rests_on) }
 {}
 
 /// In EDN a record in which at most 64 brackets are open at once is one element, a map, of the grammar of `edn_reader`.

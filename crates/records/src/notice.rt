@@ -4,31 +4,35 @@ ghost use Rattle.std.specs.Prelude.{◌≡◌, ◌++◌, ◌∷◌, [], OnOk};
 ghost use Rattle.phrases.specs.Names.{register_name};
 ghost use Rattle.records.specs.Json.{json_text};
 ghost use Rattle.records.specs.Notice.{change_symbols, changed_symbols, ended_symbols, fault_field, fault_ids_symbols, notice_symbols, optional_fault_symbols};
+ghost use Rattle.records.specs.Register.{doubt_symbols};
 ghost use Rattle.records.specs.Symbol.{symbols_of};
 
 use crate::fault::add_fault_head;
 use crate::field::{add_flag, add_number, add_place, add_text, add_type, add_word};
 use crate::line::{Notation, push_record};
 use crate::log::{add_broken, add_refused};
+use crate::register::add_doubt;
 use crate::token::RecordToken;
 use logs::Notice;
 use phrases::{kind_word, name_of};
 use register_book::Fault;
+use report::Doubt;
 use shards::VerdictChange;
 use std::alloc::{AllocError, Global};
 use tower_file::Tower;
 
-/// Adds the record of a notice in JSON, with its line end.
+/// Adds the record of a notice in JSON, with its line end. What is in doubt is of the register whose verdict changed.
 pub fn push_notice(
     alloc: Global,
     text: &mut Vec<u8>,
     tower: &Tower,
     notice: &Notice,
+    doubt: &Doubt,
 ) -> Result<(), AllocError>
-    ensures { OnOk result (text.new.items ≡ text.old.items ++ json_text (notice_symbols tower.now.registers notice.now) ++ 10 ∷ []) }
+    ensures { OnOk result (text.new.items ≡ text.old.items ++ json_text (notice_symbols tower.now.registers notice.now doubt.now.left_out.items doubt.now.rests_on.items) ++ 10 ∷ []) }
 {
     let mut tokens = Vec::new(alloc);
-    add_notice(&mut tokens, tower, notice)?;
+    add_notice(&mut tokens, tower, notice, doubt)?;
     push_record(alloc, Notation::Json, text, &tokens)
 }
 
@@ -36,8 +40,9 @@ fn add_notice<'a>(
     tokens: &mut Vec<RecordToken<'a>>,
     tower: &'a Tower,
     notice: &Notice,
+    doubt: &Doubt,
 ) -> Result<(), AllocError>
-    ensures { OnOk result (symbols_of tokens.new.items ≡ symbols_of tokens.old.items ++ notice_symbols tower.now.registers notice.now) }
+    ensures { OnOk result (symbols_of tokens.new.items ≡ symbols_of tokens.old.items ++ notice_symbols tower.now.registers notice.now doubt.now.left_out.items doubt.now.rests_on.items) }
 {
     match notice {
         Notice::Changed {
@@ -46,7 +51,8 @@ fn add_notice<'a>(
             change,
         } => {
             let name = name_of(tower, change.register);
-            add_change(tokens, name, u64::from(*feeder), *place, change)
+            add_change(tokens, name, u64::from(*feeder), *place, change)?;
+            add_doubt(tokens, doubt.left_out.as_slice(), doubt.rests_on.as_slice())
         }
         Notice::Refused {
             feeder,
@@ -58,7 +64,7 @@ fn add_notice<'a>(
     }
 }
 
-/// Adds the record of a change of a verdict.
+/// The record of a change of a verdict, up to what is in doubt.
 #[tactic(auto, unfolding(crate::specs::Notice::change_symbols))]
 fn add_change<'a>(
     tokens: &mut Vec<RecordToken<'a>>,
@@ -72,9 +78,7 @@ fn add_change<'a>(
     add_type(tokens, "change")?;
     add_place(tokens, feeder, event)?;
     add_changed(tokens, name, change)?;
-    add_fault_field(tokens, change.fault)?;
-    tokens.push(RecordToken::EndRecord)?;
-    Ok(())
+    add_fault_field(tokens, change.fault)
 }
 
 /// A register as a change of its verdict left it.

@@ -120,8 +120,10 @@ fn add_witness<'a>(
     Ok(())
 }
 
+/// Adds how many elements of a register were left out, and those of them on which its failure rests, with which its record
+/// ends.
 #[tactic(auto, unfolding(crate::specs::Register::doubt_symbols))]
-fn add_doubt<'a>(
+pub fn add_doubt<'a>(
     tokens: &mut Vec<RecordToken<'a>>,
     left_out: &[(usize, u64)],
     rests_on: &[(usize, u64)],

@@ -1,7 +1,9 @@
 -- The operations that show that a register breaks its claim.
 use Rattle.std.specs.Prelude.{◌≡◌, ◌≢◌, Bool, true, false, Contains, List, [], ◌∷◌, ◌++◌, Option, Some, None, if◌then◌else◌}
 use Rattle.intervals.specs.declared.operation.Op.{Op}
-use Rattle.intervals.specs.Operation.{same_id}
+use Rattle.intervals.specs.declared.operation.OpId.{OpId}
+use Rattle.intervals.specs.declared.operation.Value.{Value}
+use Rattle.intervals.specs.Operation.{same_id, value_of}
 use Rattle.intervals.specs.declared.claim.Holder.{Holder}
 use Rattle.intervals.specs.declared.claim.Holder.TheVariants as holders
 use Rattle.intervals.specs.declared.claim.Kind.TheVariants.{Atomic}
@@ -60,6 +62,33 @@ ids_of (Unwritten read) = faults.Unwritten read.id
 ids_of (Split first second) = faults.Split first.id second.id
 ids_of (Early read write) = faults.Early read.id write.id
 ids_of (Crossing a b c d) = faults.Crossing (side_holder a) (side_holder b) (side_holder c) (side_holder d)
+
+-- the id of an operation, or none for the initial write
+abbrev pub id_held : Holder → Option OpId
+id_held (holders.Op id) = Some id
+id_held holders.Initial = None
+
+-- the ids of the operations of a fault, in four slots
+abbrev pub operations_in : Fault → List (Option OpId)
+operations_in (faults.Wrong read) = Some read ∷ None ∷ None ∷ None ∷ []
+operations_in (faults.Unwritten read) = Some read ∷ None ∷ None ∷ None ∷ []
+operations_in (faults.Split first second) = Some first ∷ Some second ∷ None ∷ None ∷ []
+operations_in (faults.Early read write) = Some read ∷ Some write ∷ None ∷ None ∷ []
+operations_in (faults.Crossing a b c d) = id_held a ∷ id_held b ∷ id_held c ∷ id_held d ∷ []
+
+-- what the operation of a side read or wrote, or none for the initial write
+abbrev pub value_at_side : Side → Option Value
+value_at_side (sides.Op op) = Some (value_of op.act)
+value_at_side sides.Initial = None
+
+-- the values that the operations of a witness read or wrote, two at most: a crossing's second and third have one value, and
+-- its first and fourth another
+abbrev pub values_shown : Witness → List (Option Value)
+values_shown (Wrong read) = Some (value_of read.act) ∷ None ∷ []
+values_shown (Unwritten read) = Some (value_of read.act) ∷ None ∷ []
+values_shown (Split first second) = Some (value_of first.act) ∷ Some (value_of second.act) ∷ []
+values_shown (Early read write) = Some (value_of read.act) ∷ Some (value_of write.act) ∷ []
+values_shown (Crossing a b c d) = value_at_side b ∷ value_at_side d ∷ []
 
 -- the operation of a side of a crossing as a list, empty for the initial write
 abbrev pub ops_at : Side → List Op

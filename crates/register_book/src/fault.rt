@@ -1,9 +1,9 @@
 //! What shows that a register breaks its claim: the operations, or their ids.
 
 ghost use Rattle.std.specs.Prelude.{◌≡◌};
-ghost use Rattle.register_book.specs.Fault.{ids_of, in_role, is_one, roles_of, side_holder, side_in_role};
+ghost use Rattle.register_book.specs.Fault.{id_held, ids_of, in_role, is_one, operations_in, roles_of, side_holder, side_in_role, value_at_side, values_shown};
 
-use intervals::{Holder, Op, OpId};
+use intervals::{Holder, Op, OpId, Value};
 
 /// The operations that show that a register breaks its claim, by their ids.
 #[derive(Clone, Copy, PartialEq, Eq)]
@@ -33,6 +33,30 @@ pub enum Fault {
         c: Holder,
         d: Holder,
     },
+}
+
+impl Fault {
+    /// The ids of its operations, in four slots of which some may be empty.
+    pub fn operations(&self) -> [Option<OpId>; 4]
+        ensures { result ≡ operations_in self.now }
+    {
+        match self {
+            Fault::Wrong(read) | Fault::Unwritten(read) => [Some(*read), None, None, None],
+            Fault::Split { first, second } => [Some(*first), Some(*second), None, None],
+            Fault::Early { read, write } => [Some(*read), Some(*write), None, None],
+            Fault::Crossing { a, b, c, d } => [id_of(*a), id_of(*b), id_of(*c), id_of(*d)],
+        }
+    }
+}
+
+/// The id of an operation; none for the initial write.
+fn id_of(holder: Holder) -> Option<OpId>
+    ensures { result ≡ id_held holder }
+{
+    match holder {
+        Holder::Op(id) => Some(id),
+        Holder::Initial => None,
+    }
 }
 
 /// One of the four in a crossing: an operation, or the initial write.
@@ -154,6 +178,19 @@ impl<'t> Witness<'t> {
             },
         }
     }
+
+    /// The values that its operations read or wrote. Those of a crossing are of two values: of `b` and `c`, and of `a`
+    /// and `d`.
+    pub fn values(&self) -> [Option<Value>; 2]
+        ensures { result ≡ values_shown self.now }
+    {
+        match self {
+            Witness::Wrong(read) | Witness::Unwritten(read) => [Some(read.value()), None],
+            Witness::Split { first, second } => [Some(first.value()), Some(second.value())],
+            Witness::Early { read, write } => [Some(read.value()), Some(write.value())],
+            Witness::Crossing { b, d, .. } => [b.value(), d.value()],
+        }
+    }
 }
 
 fn in_role<'t>(role: Role, op: &Op<'t>) -> Option<InRole<'t>>
@@ -169,6 +206,16 @@ impl<'t> Side<'t> {
     {
         match self {
             Side::Op(op) => in_role(role, op),
+            Side::Initial => None,
+        }
+    }
+
+    /// What the operation of a side read or wrote; none for the initial write.
+    fn value(&self) -> Option<Value>
+        ensures { result ≡ value_at_side self.now }
+    {
+        match self {
+            Side::Op(op) => Some(op.value()),
             Side::Initial => None,
         }
     }

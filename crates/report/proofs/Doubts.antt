@@ -28,17 +28,17 @@ any_slot about [] = refl
 any_slot about (None ∷ slots) = any_slot about slots
 any_slot about (Some one ∷ slots) = ap (λ (b : Bool). touches about one.op || b) (any_slot about slots)
 
--- what a list of doubts has for a register
-abbrev at : (Doubt → List (ℕ × ℕ)) → List Doubt → ℕ → List (ℕ × ℕ)
+-- what a list of doubts, or of other things by register, has for a register
+abbrev at : {D A : Type 0} → (D → List A) → List D → ℕ → List A
 at f doubts number = option_map_or f (slice_get doubts number) []
 
-added_here : (f : Doubt → List (ℕ × ℕ)) (doubts : List Doubt) (number : ℕ) (old new : Doubt) (more : List (ℕ × ℕ)) → number < length doubts → old ≡ slice_index_or doubts number old → f new ≡ f old ++ more
+added_here : {D A : Type 0} (f : D → List A) (doubts : List D) (number : ℕ) (old new : D) (more : List A) → number < length doubts → old ≡ slice_index_or doubts number old → f new ≡ f old ++ more
     → at f (slice_set doubts number new) number ≡ at f doubts number ++ more
 added_here f [] number old new more within is grows = absurd (omega (arith, within))
-added_here f (doubt ∷ doubts) zero old new more within is grows = grows ∙ ap (λ (old : Doubt). f old ++ more) is
+added_here {D = D} f (doubt ∷ doubts) zero old new more within is grows = grows ∙ ap (λ (old : D). f old ++ more) is
 added_here f (doubt ∷ doubts) (suc number) old new more within is grows = added_here f doubts number old new more (omega (arith, within)) is grows
 
-added_there : (f : Doubt → List (ℕ × ℕ)) (doubts : List Doubt) (number other : ℕ) (new : Doubt) → number ≢ other → at f (slice_set doubts number new) other ≡ at f doubts other
+added_there : {D A : Type 0} (f : D → List A) (doubts : List D) (number other : ℕ) (new : D) → number ≢ other → at f (slice_set doubts number new) other ≡ at f doubts other
 added_there f [] number other new apart = refl
 added_there f (doubt ∷ doubts) zero zero new apart = absurd (apart refl)
 added_there f (doubt ∷ doubts) zero (suc other) new apart = refl
@@ -46,7 +46,7 @@ added_there f (doubt ∷ doubts) (suc number) zero new apart = refl
 added_there f (doubt ∷ doubts) (suc number) (suc other) new apart = added_there f doubts number other new (λ one. apart (ap suc one))
 
 -- a list that is added to what is noted of one register is added to it, and nothing is added to what is noted of others
-pub added : (f : Doubt → List (ℕ × ℕ)) (doubts : List Doubt) (number : ℕ) (old new : Doubt) (more : List (ℕ × ℕ)) → number < length doubts → old ≡ slice_index_or doubts number old → f new ≡ f old ++ more
+pub added : {D A : Type 0} (f : D → List A) (doubts : List D) (number : ℕ) (old new : D) (more : List A) → number < length doubts → old ≡ slice_index_or doubts number old → f new ≡ f old ++ more
     → (other : ℕ) → at f (slice_set doubts number new) other ≡ at f doubts other ++ (if number == other then more else [])
 added f doubts number old new more within is grows other = by_test (number == other) refl
   where

@@ -13,5 +13,7 @@ pub mod Batches
 pub mod Refusals
 -- what is in doubt: the elements that were left out are noted of their registers
 pub mod Doubts
+-- a change of a verdict says enough of its fault to say what that rests on
+pub mod Shown
 -- the text of a summary
 mod Summaries

@@ -10,7 +10,8 @@ use Rattle.jepsen_form.specs.declared.gist.Written.{Written}
 use Rattle.jepsen_form.specs.declared.gist.Written.TheVariants.{Nothing, Known, Unread}
 use Rattle.pairing.specs.declared.about.About.{About}
 use Rattle.register_book.specs.declared.fault.Witness.{Witness}
-use Rattle.register_book.specs.Fault.{ops_in_roles, roles_of}
+use Rattle.register_book.specs.Fault.{operations_in, ops_in_roles, roles_of}
+use Rattle.shards.specs.declared.entry.VerdictChange.{VerdictChange}
 use Rattle.logs.specs.declared.log.Line.{Line}
 use Rattle.logs.specs.declared.log.Log.{Log}
 use Rattle.logs.specs.declared.log.What.{What}
@@ -51,6 +52,23 @@ touches_one ops about = about.claims || is_unread about.written || list_any (tou
 abbrev pub rests_on : Option Witness → About → Bool
 rests_on None about = false
 rests_on (Some witness) about = touches_one (ops_in_roles (roles_of witness)) about
+
+-- an element answers or edits the operation in a slot, if there is one
+abbrev pub is_slot_of : Option OpId → Option OpId → Bool
+is_slot_of operation None = false
+is_slot_of operation (Some id) = is_of_operation id operation
+
+-- an element would have written the value in a slot, if there is one
+abbrev pub is_value_of : Written → Option Value → Bool
+is_value_of written None = false
+is_value_of written (Some value) = would_write value written
+
+-- the failure of a register, if it fails, rests on an element of that register, by the change of the verdict that tells of
+-- it: the element claims a kind, its value cannot be read, it answers or edits an operation of the fault, or it would have
+-- written a value that one of them read or wrote
+abbrev pub change_rests_on : VerdictChange → About → Bool
+change_rests_on change about =
+    option_map_or (λ fault. about.claims || is_unread about.written || list_any (is_slot_of about.operation) (operations_in fault) || list_any (is_value_of about.written) change.values) change.fault false
 
 -- an element is of the register of this number
 abbrev pub is_about : ℕ → About → Bool

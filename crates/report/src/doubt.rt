@@ -3,16 +3,17 @@
 ghost use Rattle.std.specs.Prelude.{◌≡◌, ◌==◌, ◌&&◌, ◌<◌, ◌++◌, ◌∷◌, [], ℕ, Bool, List, IfOk, OnOk, length, flat_map, if◌then◌else◌};
 ghost use Rattle.std.specs.List.{list_any};
 ghost use Rattle.pairing.specs.declared.about.About.{About as AnAbout};
-ghost use Rattle.report.specs.Doubt.{AreDoubts, is_of_operation, is_unread, left_at, place_left, left_in, left_out_at, rests_at, rests_on, touches, touches_one, would_write};
+ghost use Rattle.report.specs.Doubt.{AreDoubts, change_rests_on, is_of_operation, is_slot_of, is_unread, is_value_of, left_at, place_left, left_in, left_out_at, rests_at, rests_on, touches, touches_one, would_write};
 ghost use Rattle.report.specs.Doubting.{AreNotedSoFar, touches_slot};
-ghost use Rattle.register_book.specs.Fault.{ops_in_roles, roles_of};
+ghost use Rattle.register_book.specs.Fault.{operations_in, ops_in_roles, roles_of};
 
 use crate::finding::Finding;
 use intervals::{Op, OpId, Value};
 use jepsen_form::Written;
 use logs::{Line, Log, What};
 use pairing::About;
-use register_book::{InRole, Witness};
+use register_book::{Fault, InRole, Witness};
+use shards::VerdictChange;
 use std::alloc::{AllocError, Global};
 
 /// The elements that were left out and are of a register, and those of them on which its failure rests. An element is
@@ -134,6 +135,55 @@ fn touches_one(slots: &[Option<InRole>], about: &About) -> bool
     ensures { result ≡ touches_one (ops_in_roles slots.now) about.now }
 {
     about.claims || is_unread(about.written) || touches_any(slots, about)
+}
+
+/// Whether a failure rests on an element that was left out of its register, by the change of a verdict that tells of it.
+pub fn change_rests_on(change: &VerdictChange, about: &About) -> bool
+    ensures { result ≡ change_rests_on change.now about.now }
+{
+    match change.fault {
+        Some(fault) => {
+            about.claims
+                || is_unread(about.written)
+                || is_of_any(fault, about.operation)
+                || would_write_any(&change.values, about.written)
+        }
+        None => false,
+    }
+}
+
+/// Whether an operation is one of a fault.
+fn is_of_any(fault: Fault, operation: Option<OpId>) -> bool
+    ensures { result ≡ list_any (is_slot_of operation) (operations_in fault) }
+{
+    fault
+        .operations()
+        .iter()
+        .any(|slot| is_slot_of(operation, *slot))
+}
+
+fn is_slot_of(operation: Option<OpId>, slot: Option<OpId>) -> bool
+    ensures { result ≡ is_slot_of operation slot }
+{
+    match slot {
+        Some(id) => is_of_operation(id, operation),
+        None => false,
+    }
+}
+
+fn would_write_any(values: &[Option<Value>], written: Written) -> bool
+    ensures { result ≡ list_any (is_value_of written) values.now }
+{
+    values.iter().any(|slot| is_value_of(written, *slot))
+}
+
+fn is_value_of(written: Written, slot: Option<Value>) -> bool
+    ensures { result ≡ is_value_of written slot }
+{
+    match slot {
+        Some(value) => would_write(value, written),
+        None => false,
+    }
 }
 
 fn touches_any(slots: &[Option<InRole>], about: &About) -> bool

@@ -1,17 +1,20 @@
 //! Laws of this crate's words, which its users may rely on.
 
 ghost use Rattle.std.specs.Prelude.{◌≡◌, ◌↔◌, IsTrue, ℕ, List, Some, length, sum_by};
+ghost use Rattle.intervals.specs.declared.operation.Op.{Op};
+ghost use Rattle.intervals.specs.Terms.{ClaimModel};
 ghost use Rattle.tower_file.specs.Contents.{TowerModel};
 ghost use Rattle.jepsen_form.specs.declared.item.MomentField.{MomentField};
 ghost use Rattle.pairing.specs.declared.about.About.{About};
 ghost use Rattle.register_book.specs.declared.fault.Witness.{Witness};
-ghost use Rattle.register_book.specs.Fault.{ops_in_roles, roles_of};
+ghost use Rattle.register_book.specs.Fault.{IsWitness, ids_of, ops_in_roles, roles_of, values_shown};
+ghost use Rattle.shards.specs.declared.entry.VerdictChange.{VerdictChange};
 ghost use Rattle.shards.specs.Closing.{ClosedShard};
 ghost use Rattle.logs.specs.declared.log.Log.{Log};
 ghost use Rattle.logs.specs.Run.{IsRun};
 ghost use Rattle.report.specs.declared.finding.Finding.{Finding};
 ghost use Rattle.report.specs.Finding.{AreFindings, IsOfTower};
-ghost use Rattle.report.specs.Doubt.{RestsOn, rests_on};
+ghost use Rattle.report.specs.Doubt.{RestsOn, change_rests_on, rests_on};
 ghost use Rattle.report.specs.Culprit.{AreCulprits, culprits_of};
 ghost use Rattle.report.specs.Refused.{refused, refused_by};
 ghost use Rattle.texts.specs.Codes.{refusal_codes};
@@ -38,4 +41,11 @@ pub fn refusals_by_code_are_all()
 /// written the value that such an operation read or wrote.
 pub fn what_a_failure_rests_on()
     ensures { (witness : Witness) (about : About) → IsTrue (rests_on (Some witness) about) ↔ RestsOn (ops_in_roles (roles_of witness)) about }
+{}
+
+/// What is said to be what a failure rests on by the change of the verdict that tells of it is what it rests on by the
+/// operations that show it.
+pub fn what_a_change_rests_on()
+    ensures { (claim : ClaimModel) (ops : List Op) (witness : Witness) (change : VerdictChange) (about : About) → IsWitness claim ops witness
+        → change.fault ≡ Some (ids_of witness) → change.values ≡ values_shown witness → change_rests_on change about ≡ rests_on (Some witness) about }
 {}

@@ -36,7 +36,7 @@ mod text;
 pub use brief::{count_broken, count_failing, summary};
 pub use counts::{Counts, standing_counts};
 pub use culprit::{culprits, culprits_in, is_culprit};
-pub use doubt::{Doubt, doubts_of, rests_on, would_write};
+pub use doubt::{Doubt, change_rests_on, doubts_of, rests_on, would_write};
 pub use doubted::{are_all_in_doubt, is_doubted};
 pub use fault::ReportFault;
 pub use few::{Least, count_operations, push_few};

@@ -1,20 +1,23 @@
 -- The changes of verdicts by the entries of a journal that is one entry longer.
 use Rattle.std.proofs.Common.{◌≡◌, ◌/◌, ◌%◌, ◌<◌, List, [], ◌∷◌, ◌++◌, length, get_or, Option, Some, None, Bool, true, false, refl, sym, ap, subst, ◌∙◌, append-nil}
-use Rattle.std.specs.Prelude.{◌↔◌, IfSome, IsNone, IsTrue, option_to_list}
+use Rattle.std.specs.Prelude.{◌↔◌, IfSome, IsNone, IsTrue, option_map, option_to_list}
+use Rattle.std.specs.Option.{option_map_or}
 use Rattle.std.specs.List.{slice_get}
+use Rattle.intervals.specs.declared.operation.Value.{Value}
 use Rattle.intervals.specs.Terms.{ClaimModel, RegisterState}
 use Rattle.intervals.specs.Refusal.{after_edit}
 use Rattle.intervals.specs.Kind.{Holds}
 use Rattle.register_book.specs.BookModel.{BookModel, claimed_of}
-use Rattle.register_book.specs.declared.fault.Witness.{Witness}
-use Rattle.register_book.specs.Fault.{IsWitness, ids_of}
 use Rattle.register_book.specs.Reply.{IsReply}
+use Rattle.register_book.specs.declared.fault.Fault.{Fault}
+use Rattle.register_book.specs.declared.fault.Witness.{Witness}
+use Rattle.register_book.specs.Fault.{IsWitness, ids_of, values_shown}
 use Rattle.shards.specs.declared.entry.VerdictChange.{VerdictChange}
 use Rattle.shards.specs.declared.entry.Entry.{Entry}
 use Rattle.shards.specs.declared.shard.Shard.{Shard}
 use Rattle.shards.specs.Plan.{Plan}
 use Rattle.shards.specs.Journal.{HoldsAfter, left_by}
-use Rattle.shards.specs.VerdictChange.{AreVerdictChanges, IsChangeIfAny, IsVerdictChangeBy, as_before, one_changed}
+use Rattle.shards.specs.VerdictChange.{AreVerdictChanges, IsChangeIfAny, IsFaultShown, IsVerdictChangeBy, as_before, one_changed}
 use Rattle.shards.specs.Shard.{IsVerdictChangeTo, IsShardOf}
 use Rattle.shards.proofs.Journals.{left_push_own}
 use Rattle.shards.proofs.Kept.{HasBook, has_book, holds_by, same_book}
@@ -32,6 +35,16 @@ through {a = a} {P = P} {Q = Q} first second = (λ p. second.0 (first.1 p), λ q
 
 both : {a : Bool} {P Q : Type 0} → IsTrue a ↔ P → P ↔ Q → IsTrue a ↔ Q
 both {a = a} {P = P} {Q = Q} test same = (λ t. same.0 (test.0 t), λ q. test.1 (same.1 q))
+
+-- why a register fails, as it is told of a witness
+pub shown_by : (state : RegisterState) (witness : Option Witness) (fault : Option Fault) (values : List (Option Value)) → IfSome witness (IsWitness state.claim state.ops)
+    → fault ≡ option_map ids_of witness → values ≡ option_map_or values_shown witness (None ∷ None ∷ []) → IsFaultShown state fault values
+shown_by state None fault values is ids own = rw ids own
+shown_by state (Some witness) fault values is ids own = rw ids (witness, is, refl, sym own)
+
+pub none_shown : (witness : Option Witness) (fault : Option Fault) (P : Type 0) → fault ≡ option_map ids_of witness → IsNone witness ↔ P → IsNone fault ↔ P
+none_shown None fault P ids same = rw ids same
+none_shown (Some witness) fault P ids same = rw ids ((λ no. same.0 (absurd (cc))), (λ p. let no = same.1 p in absurd (cc)))
 
 -- a change to the verdict of a book that an entry leaves is one by the entry
 changed_by : (plan : Plan) (before : List Entry) (entry : Entry) (claim : ClaimModel) (edited : BookModel) (held : Bool) (change : VerdictChange)
@@ -51,7 +64,7 @@ changed_by plan before entry claim edited held change known left was is = record
   kind = is.kind ∙ ap (λ (s : RegisterState). s.claim.kind) left;
   verdict = subst (λ (s : RegisterState). IsTrue change.holds ↔ Holds s) left is.verdict;
   operations = is.operations ∙ ap (λ (s : RegisterState). length s.ops) left;
-  fault = subst (λ (s : RegisterState). IfSome change.fault (λ fault. (witness : Witness) × IsWitness s.claim s.ops witness × (ids_of witness ≡ fault))) left is.fault;
+  fault = subst (λ (s : RegisterState). IsFaultShown s change.fault change.values) left is.fault;
   none = subst (λ (s : RegisterState). IsNone change.fault ↔ Holds s) left is.none;
 }
 

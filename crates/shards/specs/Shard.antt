@@ -5,15 +5,13 @@ use Rattle.intervals.specs.Terms.{RegisterState}
 use Rattle.intervals.specs.declared.operation.RegId.{RegId}
 use Rattle.intervals.specs.Kind.{Holds}
 use Rattle.register_book.specs.BookModel.{BookModel, claimed_of}
-use Rattle.register_book.specs.declared.fault.Witness.{Witness}
-use Rattle.register_book.specs.Fault.{IsWitness, ids_of}
 use Rattle.shards.specs.declared.entry.VerdictChange.{VerdictChange}
 use Rattle.shards.specs.declared.entry.Entry.{Entry}
 use Rattle.shards.specs.declared.entry.NumberedEntry.{NumberedEntry}
 use Rattle.shards.specs.declared.shard.Shard.{Shard}
 use Rattle.shards.specs.Plan.{Plan}
 use Rattle.shards.specs.Journal.{left_by, IsJournalOf, count_by}
-use Rattle.shards.specs.VerdictChange.{AreVerdictChanges}
+use Rattle.shards.specs.VerdictChange.{AreVerdictChanges, IsFaultShown}
 use Rattle.shards.specs.Plain.{plain_numbered}
 use Rattle.shards.specs.Pass.{HasFarthest, PassModel, farthest_in, last_in, own_entries}
 use Rattle.shards.specs.Merge.{SubmittedAt, entries_of, numbered}
@@ -56,7 +54,7 @@ pub record IsVerdictChangeTo (book : BookModel) (register : RegId) (number : ℕ
   pub kind : change.kind ≡ book.claim.kind
   pub verdict : IsTrue change.holds ↔ Holds (claimed_of book)
   pub operations : change.operations ≡ length book.ops
-  pub fault : IfSome change.fault (λ fault. (witness : Witness) × IsWitness book.claim book.ops witness × (ids_of witness ≡ fault))
+  pub fault : IsFaultShown (claimed_of book) change.fault change.values
   pub none : IsNone change.fault ↔ Holds (claimed_of book)
 
 -- the numbers of the entries rise

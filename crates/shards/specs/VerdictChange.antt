@@ -1,14 +1,22 @@
 -- The entries of a journal that change the verdict on their register.
-use Rattle.std.specs.Prelude.{◌≡◌, ◌↔◌, List, [], ◌∷◌, ◌++◌, length, Option, Some, None, IfSome, IsNone, IsTrue}
+use Rattle.std.specs.Prelude.{◌≡◌, ◌↔◌, List, [], ◌∷◌, ◌++◌, length, Option, Some, None, IsNone, IsTrue}
 use Rattle.std.specs.List.{slice_get}
-use Rattle.intervals.specs.Terms.{ClaimModel}
+use Rattle.intervals.specs.declared.operation.Value.{Value}
+use Rattle.intervals.specs.Terms.{ClaimModel, RegisterState}
 use Rattle.intervals.specs.Kind.{Holds}
 use Rattle.register_book.specs.declared.fault.Witness.{Witness}
-use Rattle.register_book.specs.Fault.{IsWitness, ids_of}
+use Rattle.register_book.specs.declared.fault.Fault.{Fault}
+use Rattle.register_book.specs.Fault.{IsWitness, ids_of, values_shown}
 use Rattle.shards.specs.declared.entry.VerdictChange.{VerdictChange}
 use Rattle.shards.specs.declared.entry.Entry.{Entry}
 use Rattle.shards.specs.Plan.{Plan}
 use Rattle.shards.specs.Journal.{HoldsAfter, left_by}
+
+-- the operations that show why a register fails are those of this fault, and they read or wrote these values; where there is
+-- no fault there are no values
+abbrev pub IsFaultShown : RegisterState → Option Fault → List (Option Value) → Type 0
+IsFaultShown state None values = values ≡ None ∷ None ∷ []
+IsFaultShown state (Some fault) values = (witness : Witness) × IsWitness state.claim state.ops witness × (ids_of witness ≡ fault) × (values_shown witness ≡ values)
 
 -- an entry after these leaves the verdict on its register as it was
 abbrev pub IsAsBefore : Plan → List Entry → Entry → Type 0
@@ -25,8 +33,7 @@ pub record IsVerdictChangeBy (plan : Plan) (before : List Entry) (entry : Entry)
   pub kind : change.kind ≡ (left_by (before ++ entry ∷ []) entry.register.0 claim).claim.kind
   pub verdict : IsTrue change.holds ↔ Holds (left_by (before ++ entry ∷ []) entry.register.0 claim)
   pub operations : change.operations ≡ length (left_by (before ++ entry ∷ []) entry.register.0 claim).ops
-  pub fault : IfSome change.fault (λ fault. (witness : Witness)
-      × IsWitness (left_by (before ++ entry ∷ []) entry.register.0 claim).claim (left_by (before ++ entry ∷ []) entry.register.0 claim).ops witness × (ids_of witness ≡ fault))
+  pub fault : IsFaultShown (left_by (before ++ entry ∷ []) entry.register.0 claim) change.fault change.values
   pub none : IsNone change.fault ↔ Holds (left_by (before ++ entry ∷ []) entry.register.0 claim)
 
 -- the optional change is the one by an entry after these; none where the entry leaves the verdict on its register as it

@@ -1,6 +1,6 @@
 //! What is entered in a journal, and what a call returns.
 
-use intervals::{Edit, Kind, RegId};
+use intervals::{Edit, Kind, RegId, Value};
 use register_book::{Fault, Reply, Witness};
 
 /// An edit that was answered with a receipt, as a journal keeps it: who submitted what, and the reply.
@@ -53,4 +53,6 @@ pub struct VerdictChange {
     /// How many operations stand after the entry, unfinished ones among them.
     pub operations: u64,
     pub fault: Option<Fault>,
+    /// The values that the operations of the fault read or wrote; none where it holds.
+    pub values: [Option<Value>; 2],
 }

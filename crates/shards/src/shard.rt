@@ -1,11 +1,12 @@
 //! The registers of one shard, with the journal of their edits.
 
-ghost use Rattle.std.specs.Prelude.{◌≡◌, ◌<◌, ◌%◌, ◌/◌, ◌++◌, ◌∷◌, [], ℕ, ◌↔◌, IfOk, IfErr, IfSome, IsNone, IsTrue, OnOk, OnErr, length, replicate, map, option_map, option_to_list, vec_len, vec_capacity};
+ghost use Rattle.std.specs.Prelude.{◌≡◌, ◌<◌, ◌%◌, ◌/◌, ◌++◌, ◌∷◌, [], ℕ, ◌↔◌, IfOk, IfErr, IfSome, IsNone, IsTrue, OnOk, OnErr, length, replicate, map, option_map, option_to_list, Some, None, vec_len, vec_capacity};
+ghost use Rattle.std.specs.Option.{option_map_or};
 ghost use Rattle.std.specs.List.{slice_get};
 ghost use Rattle.shards.specs.declared.fault.ShardFault.TheVariants.{Memory};
 ghost use Rattle.intervals.specs.Terms.{unedited};
 ghost use Rattle.intervals.specs.Kind.{Holds};
-ghost use Rattle.register_book.specs.Fault.{ids_of};
+ghost use Rattle.register_book.specs.Fault.{ids_of, values_shown};
 ghost use Rattle.register_book.specs.BookModel.{claimed_of};
 ghost use Rattle.shards.specs.Plan.{plan_of, claims_of};
 ghost use Rattle.shards.specs.Journal.{IsAnswered, count_by};
@@ -14,7 +15,7 @@ ghost use Rattle.shards.specs.Steps.{IsStanding, entry_of};
 ghost use Rattle.shards.specs.VerdictChange.{IsChangeIfAny};
 
 use crate::{Answer, Entry, Opening, Receipt, ShardFault, VerdictChange};
-use intervals::{Edit, RegId};
+use intervals::{Edit, RegId, Value};
 use register_book::{Fault, RegisterBook, Witness};
 use std::alloc::Global;
 use tower_file::Tower;
@@ -137,13 +138,15 @@ fn change_to(book: &RegisterBook, register: RegId, number: u64, held: bool) -> O
     if holds == held {
         return None;
     }
+    let witness = book.witness();
     Some(VerdictChange {
         number,
         register,
         kind: book.kind(),
         holds,
         operations: book.len() as u64,
-        fault: book.fault(),
+        fault: fault_by(witness),
+        values: values_by(&witness),
     })
 }
 
@@ -162,6 +165,16 @@ fn fault_by(witness: Option<Witness>) -> Option<Fault>
     ensures { result ≡ option_map ids_of witness.entry }
 {
     Some(witness?.ids())
+}
+
+/// The values that the operations of a witness read or wrote; none where there is none.
+fn values_by(witness: &Option<Witness>) -> [Option<Value>; 2]
+    ensures { result ≡ option_map_or values_shown witness.now (None ∷ None ∷ []) }
+{
+    match witness {
+        Some(witness) => witness.values(),
+        None => [None, None],
+    }
 }
 
 fn no_counts(alloc: Global, feeders: u32) -> Result<Vec<usize>, ShardFault>

@@ -37,7 +37,7 @@ is_watched (Ok watched) run tower terms own left registers state told old new r 
     let is = subst (λ (run : Result Run RunFault). IfOk run (IsRunOver tower terms left)) of over in
     let mine : IsToldAll terms tower.registers old new told finished state = rw (r, t) all in record {
       notices = mine.written;
-      written = mine.out.texts written;
+      written = mine.texts written;
       traces = is.0;
       are_read = is.1;
       run = is.2;
@@ -46,7 +46,7 @@ is_watched (Ok watched) run tower terms own left registers state told old new r 
       by_entries = compared.1;
       are_noted = compared.2;
       settled = settled terms.settle mine.written (mine.settled (is_over ∙ ap is_ok of));
-      end = end terms.until_fail mine.written mine.out.after;
+      end = end terms.until_fail mine.written mine.after;
     }
 
 -- a watch that broke off, and not by its output, wrote whole notices
@@ -55,5 +55,5 @@ pub is_whole : (result : Result Watched WatchFault) (terms own : Terms) (here re
     → IfErr result (λ fault. fault ≢ Write → (notices : List Notice) × Appends old new (text_of_notices terms.form here notices))
 is_whole (Err fault) terms own here registers state told old new r t written finished all =
     let mine : IsToldAll terms here old new told finished state = rw (r, t) all in
-    λ other. (mine.written, mine.out.texts (written other))
+    λ other. (mine.written, mine.texts (written other))
 is_whole (Ok watched) terms own here registers state told old new r t written finished all = tt

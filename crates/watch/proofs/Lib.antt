@@ -25,6 +25,8 @@ pub mod Worked
 pub mod Fronts
 pub mod ToldAll
 pub mod Concluding
+-- the elements that notices say were left out, by register
+pub mod Doubting
 -- what is settled of what is told; how far feeders come, and what is held back until then; what a teller was told and
 -- wrote; what is written of a register, as the changes of its shard's journal
 pub mod Passing

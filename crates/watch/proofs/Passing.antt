@@ -2,7 +2,7 @@
 use Rattle.std.proofs.Common.{◌≡◌, ◌≢◌, inl, inr, ℕ, zero, suc, Bool, true, false, not, cond, List, [], ◌∷◌, ◌++◌, refl, sym, ap, subst, ◌∙◌, ◌<◌, arith}
 use Rattle.std.specs.Prelude.{filter, length, nat_eq, slice_index_or, take, drop}
 use Rattle.std.specs.List.{remove}
-use Rattle.std.proofs.Math.Seq.{split_at, take-suc}
+use Rattle.std.proofs.Math.Seq.{split_at}
 use Rattle.intervals.specs.declared.operation.RegId.{RegId}
 use Rattle.std.proofs.lemmas.List.{append-nil, append_assoc, map-append}
 use Rattle.std.proofs.lemmas.Bool.Decides.{nat_tests}

@@ -3,6 +3,7 @@ pub mod Coming
 pub mod Trace
 pub mod Final
 pub mod Healing
+pub mod Doubt
 pub mod Text
 pub mod Settling
 pub mod Noted

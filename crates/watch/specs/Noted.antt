@@ -3,7 +3,9 @@ use Rattle.std.specs.Prelude.{◌≡◌, ◌<◌, ◌==◌, ℕ, Bool, true, fal
 use Rattle.std.specs.List.{slice_get}
 use Rattle.std.specs.Option.{option_to_list}
 use Rattle.logs.specs.Code.{break_code_of, refused_code}
+use Rattle.pairing.specs.declared.about.About.{About}
 use Rattle.logs.specs.declared.log.Broken.{Broken as ABreak}
+use Rattle.logs.specs.declared.log.LeftOut.{LeftOut}
 use Rattle.logs.specs.declared.log.Line.{Line}
 use Rattle.logs.specs.declared.log.Log.{Log}
 use Rattle.logs.specs.declared.log.What.{What}
@@ -16,12 +18,16 @@ abbrev pub IsToldOf : {A : Type 0} → Bool → List A → List A → Type 0
 IsToldOf true told own = (rest : List _) × (own ≡ told ++ rest)
 IsToldOf false told own = own ≡ told
 
--- what is noted of a trace: that an element was refused, by its place and the printed code; that the trace broke, by the
--- printed code and at which byte; or that it ended, where nothing says after how many elements
+-- what is noted of a trace: that an element was refused, by its place, the printed code and what it is about; that the
+-- trace broke, by the printed code and at which byte; or that it ended, where nothing says after how many elements
 pub data Note : Type 0 where
-  Refused : ℕ → List ℕ → Note
+  Refused : ℕ → List ℕ → About → Note
   Broke : List ℕ → ℕ → Note
   Ended : Note
+
+-- what is noted of an element that was left out
+abbrev pub note_of_refusal : ℕ → LeftOut → Note
+note_of_refusal place left_out = Refused place (refused_code left_out.code) left_out.about
 
 -- what is noted of where a trace broke
 abbrev pub note_of_break : ABreak → Note
@@ -37,7 +43,7 @@ feeder_of_notice (notices.Ended feeder elements) = feeder
 -- what a notice notes; none for a change. How many elements a trace had when it ended is left out: no log says it
 abbrev pub note_of_notice : Notice → Option Note
 note_of_notice (notices.Changed feeder place change) = None
-note_of_notice (notices.Refused feeder place left_out) = Some (Refused place (refused_code left_out.code))
+note_of_notice (notices.Refused feeder place left_out) = Some (note_of_refusal place left_out)
 note_of_notice (notices.Broke feeder broken) = Some (note_of_break broken)
 note_of_notice (notices.Ended feeder elements) = Some Ended
 
@@ -47,7 +53,7 @@ note_of at notice = if feeder_of_notice notice == at then note_of_notice notice 
 
 -- what is to be noted of an element, given what its log line has: that it was refused; an answer is not told
 abbrev pub note_of_what : ℕ → What → Option Note
-note_of_what place (whats.Refused left_out) = Some (Refused place (refused_code left_out.code))
+note_of_what place (whats.Refused left_out) = Some (note_of_refusal place left_out)
 note_of_what place (whats.Answered register answer) = None
 
 -- what is to be noted by a log line

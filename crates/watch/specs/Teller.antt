@@ -12,7 +12,9 @@ use Rattle.watch.specs.declared.printer.Unwritten.{Unwritten}
 use Rattle.watch.specs.declared.printer.Unwritten.TheVariants as unwritten
 use Rattle.watch.specs.Due.{WaitInTurn, has_due, most_of}
 use Rattle.watch.specs.Settling.{AreWrittenOf, IsHeldBack, IsSettledUpTo, is_no_change, notices_of, says_fails}
-use Rattle.watch.specs.Text.{text_of_notices}
+use Rattle.watch.specs.declared.doubt.LeftSoFar.{LeftSoFar}
+use Rattle.watch.specs.Doubt.{AreLeftFor}
+use Rattle.watch.specs.Text.{text_of_notices, texts_after}
 use Rattle.watch.specs.Watched.{IsEnd, ends_at}
 
 -- a teller as it is seen: what it was told, what of that it holds back, how far each feeder has come, and whether it
@@ -58,10 +60,21 @@ state_after (Ok done) until_fail notice = if ends_at until_fail notice then Stop
 state_after (Err unwritten.Memory) until_fail notice = OutOfMemory
 state_after (Err unwritten.Write) until_fail notice = Unwritable
 
--- these notices were written, one after the other, and a teller that did so is in this state
-pub record IsWritten (terms : Terms) (registers : List Register) (written : List Notice) (state : TellerState) (old new : Option (List ℕ)) : Type 0 where
-  pub texts : HasWritten state → Appends old new (text_of_notices terms.form registers written)
+-- a printer as it is seen: what the output has, and the elements that were left out so far
+pub record PrinterModel : Type 0 where
+  pub out : Option (List ℕ)
+  pub left : LeftSoFar
+
+-- after these earlier notices others were written, one after the other; a teller that did so is in this state
+pub record IsWritten (terms : Terms) (registers : List Register) (earlier written : List Notice) (state : TellerState) (old new : Option (List ℕ)) (kept : LeftSoFar) : Type 0 where
+  pub texts : HasWritten state → Appends old new (texts_after terms.form registers earlier written)
+  pub left : HasTold state → AreLeftFor terms.form (earlier ++ written) kept
   pub after : IsStateAfter terms.until_fail written state
+
+-- whatever was written earlier, these notices were written then
+abbrev pub WritesOn : Terms → List Register → List Notice → TellerState → PrinterModel → PrinterModel → Type 0
+WritesOn terms registers written state old new =
+    (earlier : List Notice) → AreLeftFor terms.form earlier old.left → IsWritten terms registers earlier written state old.out new.out new.left
 
 -- what was written and what is held back of what was told: where no failure is to be held back none is, and all is
 -- written; else all refusals, breaks and ends are, in order, and of each register what is settled
@@ -71,9 +84,9 @@ pub record IsWrittenOrHeld (settle : ℕ) (told held written : List Notice) : Ty
   pub by_register : (register : ℕ) → IsSettledUpTo (notices_of register told) (notices_of register held) (notices_of register written)
 
 -- what a teller was told is written, or held back
-pub record IsTold (terms : Terms) (registers : List Register) (before now : Option (List ℕ)) (told held : List Notice) (state : TellerState) : Type 0 where
+pub record IsTold (terms : Terms) (registers : List Register) (before : Option (List ℕ)) (now : PrinterModel) (told held : List Notice) (state : TellerState) : Type 0 where
   pub written : List Notice
-  pub out : IsWritten terms registers written state before now
+  pub out : IsWritten terms registers [] written state before now.out now.left
   pub settled : HasTold state → IsWrittenOrHeld terms.settle told held written
 
 -- a failure of one register that was held back and the change that heals it, of which nothing is written or left
@@ -108,5 +121,6 @@ AreWrittenIn Unwritable settle told written = Unit {0}
 -- what a teller leaves of what it was told, where all is over; where that broke off, nothing is said of what was held back
 pub record IsToldAll (terms : Terms) (registers : List Register) (before now : Option (List ℕ)) (told : List Notice) (finished : Bool) (state : TellerState) : Type 0 where
   pub written : List Notice
-  pub out : IsWritten terms registers written state before now
+  pub texts : HasWritten state → Appends before now (text_of_notices terms.form registers written)
+  pub after : IsStateAfter terms.until_fail written state
   pub settled : finished ≡ true → AreWrittenIn state terms.settle told written

@@ -1,5 +1,5 @@
 -- The texts of notices.
-use Rattle.std.specs.Prelude.{ℕ, List, [], ◌∷◌, ◌++◌, Option, Some, None, codes, flat_map}
+use Rattle.std.specs.Prelude.{ℕ, List, [], ◌∷◌, ◌++◌, Option, Some, None, codes}
 use Rattle.std.specs.Fmt.{decimal}
 use Rattle.register_book.specs.declared.fault.Fault.{Fault}
 use Rattle.tower_file.specs.Contents.{Register}
@@ -12,6 +12,7 @@ use Rattle.report.specs.Notes.{broken_line}
 use Rattle.phrases.specs.Fault.{fault_text}
 use Rattle.records.specs.Json.{json_text}
 use Rattle.records.specs.Notice.{notice_symbols}
+use Rattle.watch.specs.Doubt.{left_out_before, rested_before}
 use Rattle.watch.specs.declared.text.NoticeForm.{NoticeForm}
 use Rattle.watch.specs.declared.text.NoticeForm.TheVariants as forms
 
@@ -33,11 +34,20 @@ line_of_notice registers (Refused feeder place left_out) = codes "refused " ++ p
 line_of_notice registers (Broke feeder broken) = broken_line feeder (Some broken)
 line_of_notice registers (Ended feeder elements) = codes "end " ++ decimal feeder ++ codes " " ++ decimal elements ++ 10 ∷ []
 
--- the text of a notice, with its line end: a line for people, or a record in JSON
-unfoldable pub text_of_notice : NoticeForm → List Register → Notice → List ℕ
-text_of_notice forms.Line registers notice = line_of_notice registers notice
-text_of_notice forms.Record registers notice = json_text (notice_symbols registers notice) ++ 10 ∷ []
+-- the record of a notice after these earlier ones, in JSON: it says what is in doubt by what they say was left out
+abbrev pub record_of_notice : List Register → List Notice → Notice → List ℕ
+record_of_notice registers earlier notice = json_text (notice_symbols registers notice (left_out_before earlier notice) (rested_before earlier notice)) ++ 10 ∷ []
+
+-- the text of a notice after these earlier ones, with its line end: a line for people, or a record
+unfoldable pub text_of_notice : NoticeForm → List Register → List Notice → Notice → List ℕ
+text_of_notice forms.Line registers earlier notice = line_of_notice registers notice
+text_of_notice forms.Record registers earlier notice = record_of_notice registers earlier notice
+
+-- the texts of notices after these earlier ones
+abbrev pub texts_after : NoticeForm → List Register → List Notice → List Notice → List ℕ
+texts_after form registers earlier [] = []
+texts_after form registers earlier (notice ∷ notices) = text_of_notice form registers earlier notice ++ texts_after form registers (earlier ++ notice ∷ []) notices
 
 -- the texts of notices, one after the other
 abbrev pub text_of_notices : NoticeForm → List Register → List Notice → List ℕ
-text_of_notices form registers notices = flat_map (text_of_notice form registers) notices
+text_of_notices form registers notices = texts_after form registers [] notices

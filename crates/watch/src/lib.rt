@@ -13,6 +13,7 @@
 #![tactic(auto)]
 
 mod compare;
+mod doubt;
 mod fault;
 pub mod laws;
 mod live;

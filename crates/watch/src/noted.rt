@@ -6,10 +6,11 @@ ghost use Rattle.std.specs.Option.{option_to_list};
 ghost use Rattle.logs.specs.Code.{refused_code};
 ghost use Rattle.logs.specs.declared.log.Log.{Log as ALog};
 ghost use Rattle.watch.specs.Left.{notes_left};
-ghost use Rattle.watch.specs.Noted.{AreNoted, IsToldOf, Note, feeder_of_notice, note_of, note_of_break, note_of_line, notes_of_log};
-ghost use Rattle.watch.specs.Noted.Note.{Ended as NoteOfEnd, Refused as NoteOfRefusal};
+ghost use Rattle.watch.specs.Noted.{AreNoted, IsToldOf, Note, feeder_of_notice, note_of, note_of_break, note_of_line, note_of_refusal, notes_of_log};
+ghost use Rattle.watch.specs.Noted.Note.{Ended as NoteOfEnd};
 
-use logs::{Broken, Code, Line, Log, Notice, What};
+use crate::same::is_same_about;
+use logs::{Broken, LeftOut, Line, Log, Notice, What};
 
 /// What is left to be noted of a trace.
 #[derive(Clone, Copy)]
@@ -105,19 +106,19 @@ fn left_after<'a, 't>(left: Left<'a, 't>, notice: &Notice, at: usize) -> Option<
             place,
             left_out,
             ..
-        } => after_refusal(left, *place, left_out.code.code()),
+        } => after_refusal(left, *place, left_out),
         Notice::Broke { broken, .. } => after_break(left, *broken),
         Notice::Ended { .. } => after_end(left),
     }
 }
 
 /// What is left after a refusal; none where another note is the first one.
-fn after_refusal<'a, 't>(left: Left<'a, 't>, place: u64, code: &str) -> Option<Left<'a, 't>>
-    ensures more { IfSome result (λ more. notes_left left.entry ≡ NoteOfRefusal place code.now ∷ notes_left more) }
-    ensures none { IsNone result → (more : List Note) → notes_left left.entry ≢ NoteOfRefusal place code.now ∷ more }
+fn after_refusal<'a, 't>(left: Left<'a, 't>, place: u64, left_out: &LeftOut) -> Option<Left<'a, 't>>
+    ensures more { IfSome result (λ more. notes_left left.entry ≡ note_of_refusal place left_out.now ∷ notes_left more) }
+    ensures none { IsNone result → (more : List Note) → notes_left left.entry ≢ note_of_refusal place left_out.now ∷ more }
 {
     let (first, found, lines) = next_refusal(left.lines)?;
-    if first == place && found.code() == code {
+    if first == place && is_same_refusal(&found, left_out) {
         Some(Left {
             lines,
             broken: left.broken,
@@ -126,6 +127,13 @@ fn after_refusal<'a, 't>(left: Left<'a, 't>, place: u64, code: &str) -> Option<L
     } else {
         None
     }
+}
+
+/// Whether two elements were refused by one code and are about the same.
+fn is_same_refusal(a: &LeftOut, b: &LeftOut) -> bool
+    ensures { IsTrue result ↔ ((refused_code a.now.code ≡ refused_code b.now.code) × (a.now.about ≡ b.now.about)) }
+{
+    a.code.code() == b.code.code() && is_same_about(&a.about, &b.about)
 }
 
 /// What is left after a break; none where another note is the first one.
@@ -166,14 +174,14 @@ fn after_end<'a, 't>(left: Left<'a, 't>) -> Option<Left<'a, 't>>
     })
 }
 
-/// The first refusal among log lines, by its place and its code, and the lines after it.
-fn next_refusal<'a, 't>(lines: &'a [Line<'t>]) -> Option<(u64, Code, &'a [Line<'t>])>
-    ensures some { IfSome result (λ next. filter_map note_of_line lines.now ≡ NoteOfRefusal next.0 (refused_code next.1) ∷ filter_map note_of_line next.2.now) }
+/// The first refusal among log lines, with its place, and the lines after it.
+fn next_refusal<'a, 't>(lines: &'a [Line<'t>]) -> Option<(u64, LeftOut, &'a [Line<'t>])>
+    ensures some { IfSome result (λ next. filter_map note_of_line lines.now ≡ note_of_refusal next.0 next.1 ∷ filter_map note_of_line next.2.now) }
     ensures none { IsNone result → filter_map note_of_line lines.now ≡ [] }
 {
     for at in 0..lines.len() {
         if let What::Refused(left_out) = lines[at].what {
-            return Some((lines[at].event, left_out.code, &lines[at + 1..]));
+            return Some((lines[at].event, left_out, &lines[at + 1..]));
         }
     }
     None

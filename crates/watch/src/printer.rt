@@ -6,15 +6,17 @@ ghost use Rattle.std.specs.Io.KnownBytes.{Appends};
 ghost use Rattle.logs.specs.declared.notice.Notice.{Notice as ANotice};
 ghost use Rattle.watch.specs.declared.settling.Held.{Held as AHeld};
 ghost use Rattle.watch.specs.Due.{AreDueFirst, AreHeldFrom, has_due, held_notices};
-ghost use Rattle.watch.specs.Teller.{HasTold, HasWrittenDue, ArePassedOn, IsWritten, state_after};
+ghost use Rattle.watch.specs.Teller.{HasTold, HasWrittenDue, ArePassedOn, WritesOn, state_after};
+ghost use Rattle.watch.specs.Doubt.{AreLeftFor};
 ghost use Rattle.watch.specs.Text.{text_of_notice};
 ghost use Rattle.watch.specs.Watched.{ends_at};
 ghost use Rattle.watch.specs.declared.printer.Unwritten.TheVariants.{Memory as OutOfMemory, Write as Refused};
 
+use crate::doubt::LeftSoFar;
 use crate::run::Terms;
 use crate::settling::{FeederProgress, Held, passed_on};
 use crate::teller::{TellerState, has_told, is_going};
-use crate::text::notice_text;
+use crate::text::{NoticeForm, notice_text};
 use logs::Notice;
 use std::alloc::{AllocError, Global};
 use std::io::{Error, Write};
@@ -58,10 +60,11 @@ pub struct Output<'a, W: Write> {
     pub out: &'a mut W,
 }
 
-/// An output, and how notices are written on it. It is seen as what the output has.
+/// An output, and how notices are written on it, with the elements that they say were left out.
 #[derive(Drop)]
 pub struct Printer<'a, 't, W: Write, B: Beginning> {
     out: &'a mut W,
+    left: LeftSoFar,
     tower: &'t Tower,
     terms: Terms,
     alloc: Global,
@@ -69,11 +72,12 @@ pub struct Printer<'a, 't, W: Write, B: Beginning> {
 }
 
 impl<'a, 't, W: Write, B: Beginning> Model for Printer<'a, 't, W, B> {
-    ghost use Rattle.std.specs.Prelude.{◌≡◌, ℕ, List, Option};
+    ghost use Rattle.std.specs.Prelude.{◌≡◌};
+    ghost use Rattle.watch.specs.Teller.{PrinterModel};
 
-    ghost Value = { Option (List ℕ) };
+    ghost Value = { PrinterModel };
 
-    ghost view = { λ p. W.contents p.out.now };
+    ghost view = { λ p. record { out = W.contents p.out.now; left = p.left } };
 
     ghost invariant = { λ p. (p.out.ghost_name ≡ B.output) × (p.tower.now.registers ≡ B.registers) × (p.terms ≡ B.terms) };
 }
@@ -85,11 +89,13 @@ impl<'a, 't, W: Write, B: Beginning> Printer<'a, 't, W, B> {
         requires before { W.contents output.out.now ≡ B.before }
         requires registers { tower.now.registers ≡ B.registers }
         requires terms { terms ≡ B.terms }
-        ensures { result ≡ B.before }
+        ensures before { result.out ≡ B.before }
+        ensures left { AreLeftFor B.terms.form [] result.left }
     {
         let Output { out } = output;
         Printer {
             out,
+            left: LeftSoFar::new(alloc),
             tower,
             terms,
             alloc,
@@ -100,7 +106,7 @@ impl<'a, 't, W: Write, B: Beginning> Printer<'a, 't, W, B> {
     /// Its output.
     pub fn into_output(self) -> Output<'a, W>
         ensures output { result.out.ghost_name ≡ B.output }
-        ensures contents { W.contents result.out.now ≡ self.entry }
+        ensures contents { W.contents result.out.now ≡ self.entry.out }
     {
         let Printer { out, .. } = self;
         Output { out }
@@ -115,7 +121,7 @@ impl<'a, 't, W: Write, B: Beginning> Printer<'a, 't, W, B> {
         notice: Notice,
     ) -> TellerState
         ensures told { HasTold result → told.new.items ≡ told.old.items ++ notice ∷ [] }
-        ensures written { (written : List ANotice) × IsWritten B.terms B.registers written result self.old self.new
+        ensures written { (written : List ANotice) × WritesOn B.terms B.registers written result self.old self.new
             × (HasTold result → ArePassedOn B.terms.settle (held_notices held.old.items) (notice ∷ []) written (held_notices held.new.items)) }
         ensures held { HasTold result → AreHeldFrom progress.now B.terms.settle notice held.old.items held.new.items }
     {
@@ -146,7 +152,7 @@ impl<'a, 't, W: Write, B: Beginning> Printer<'a, 't, W, B> {
 
     /// Writes what is due of what is held back, the oldest first, up to the first that is not due.
     pub fn write_due(&mut self, held: &mut Vec<Held>, progress: &[FeederProgress]) -> TellerState
-        ensures written { (written : List AHeld) × (held.old.items ≡ written ++ held.new.items) × IsWritten B.terms B.registers (held_notices written) result self.old self.new }
+        ensures written { (written : List AHeld) × (held.old.items ≡ written ++ held.new.items) × WritesOn B.terms B.registers (held_notices written) result self.old self.new }
         ensures due { AreDueFirst progress.now held.old.items held.new.items }
         ensures none { HasWrittenDue result progress.now held.new.items }
     {
@@ -165,7 +171,7 @@ impl<'a, 't, W: Write, B: Beginning> Printer<'a, 't, W, B> {
 
     /// Writes all that is held back where the run is over, and nothing where it broke off.
     pub fn write_last(&mut self, held: &mut Vec<Held>, finished: bool) -> TellerState
-        ensures written { (written : List AHeld) × (held.old.items ≡ written ++ held.new.items) × IsWritten B.terms B.registers (held_notices written) result self.old self.new }
+        ensures written { (written : List AHeld) × (held.old.items ≡ written ++ held.new.items) × WritesOn B.terms B.registers (held_notices written) result self.old self.new }
         ensures all { finished ≡ true → result ≡ TellerState.Going → held.new.items ≡ [] }
     {
         if finished {
@@ -177,7 +183,7 @@ impl<'a, 't, W: Write, B: Beginning> Printer<'a, 't, W, B> {
 
     /// Writes all that is held back, the oldest first.
     fn write_left(&mut self, held: &mut Vec<Held>) -> TellerState
-        ensures written { (written : List AHeld) × (held.old.items ≡ written ++ held.new.items) × IsWritten B.terms B.registers (held_notices written) result self.old self.new }
+        ensures written { (written : List AHeld) × (held.old.items ≡ written ++ held.new.items) × WritesOn B.terms B.registers (held_notices written) result self.old self.new }
         ensures all { result ≡ TellerState.Going → held.new.items ≡ [] }
     {
         let many = held.len();
@@ -193,7 +199,7 @@ impl<'a, 't, W: Write, B: Beginning> Printer<'a, 't, W, B> {
     /// Writes the oldest of what is held back, which is then not held any longer.
     fn write_first(&mut self, held: &mut Vec<Held>) -> TellerState
         requires some { 0 < vec_len held.old }
-        ensures written { (written : List AHeld) × (held.old.items ≡ written ++ held.new.items) × IsWritten B.terms B.registers (held_notices written) result self.old self.new
+        ensures written { (written : List AHeld) × (held.old.items ≡ written ++ held.new.items) × WritesOn B.terms B.registers (held_notices written) result self.old self.new
             × (HasTold result → length written ≡ 1) }
         ensures first { (held.new.items ≡ held.old.items) ⊎ ((one : AHeld) × (held.old.items ≡ one ∷ held.new.items)) }
     {
@@ -206,8 +212,8 @@ impl<'a, 't, W: Write, B: Beginning> Printer<'a, 't, W, B> {
 
     /// Writes a notice.
     fn write_one(&mut self, notice: &Notice) -> TellerState
-        ensures told { HasTold result → IsWritten B.terms B.registers (notice.now ∷ []) result self.old self.new }
-        ensures none { (¬ HasTold result) → IsWritten B.terms B.registers [] result self.old self.new }
+        ensures told { HasTold result → WritesOn B.terms B.registers (notice.now ∷ []) result self.old self.new }
+        ensures none { (¬ HasTold result) → WritesOn B.terms B.registers [] result self.old self.new }
     {
         let written = self.write_notice(notice);
         state_after(written, self.terms.until_fail, notice)
@@ -215,13 +221,30 @@ impl<'a, 't, W: Write, B: Beginning> Printer<'a, 't, W, B> {
 
     /// Writes a notice in one write, and flushes it.
     fn write_notice(&mut self, notice: &Notice) -> Result<(), Unwritten>
-        ensures written { OnOk result (Appends self.old self.new (text_of_notice B.terms.form B.registers notice.now)) }
-        ensures memory { result ≡ Err Unwritten.Memory → self.new ≡ self.old }
+        ensures written { OnOk result ((earlier : List ANotice) → AreLeftFor B.terms.form earlier self.old.left → Appends self.old.out self.new.out (text_of_notice B.terms.form B.registers earlier notice.now)) }
+        ensures left { OnOk result ((earlier : List ANotice) → AreLeftFor B.terms.form earlier self.old.left → AreLeftFor B.terms.form (earlier ++ notice.now ∷ []) self.new.left) }
+        ensures memory { result ≡ Err Unwritten.Memory → self.new.out ≡ self.old.out }
     {
-        let text = notice_text(self.alloc, self.tower, self.terms.form, notice)?;
+        let text = notice_text(self.alloc, self.tower, self.terms.form, &self.left, notice)?;
+        note_left(self.alloc, self.terms.form, &mut self.left, notice)?;
         self.out.write_all(text.as_slice())?;
         self.out.flush()?;
         Ok(())
+    }
+}
+
+/// Notes what a notice says was left out, where a later record may tell of it.
+fn note_left(
+    alloc: Global,
+    form: NoticeForm,
+    left: &mut LeftSoFar,
+    notice: &Notice,
+) -> Result<(), AllocError>
+    ensures { OnOk result ((earlier : List ANotice) → AreLeftFor form earlier left.old → AreLeftFor form (earlier ++ notice.now ∷ []) left.new) }
+{
+    match form {
+        NoticeForm::Record => left.note(alloc, notice),
+        NoticeForm::Line => Ok(()),
     }
 }
 

@@ -1,7 +1,10 @@
-//! Whether two changes of verdicts are one.
+//! Whether two changes of verdicts are one, and what two elements are about.
 
 ghost use Rattle.std.specs.Prelude.{◌≡◌, ◌↔◌, IsTrue};
 
+use intervals::Value;
+use jepsen_form::Written;
+use pairing::About;
 use register_book::Fault;
 use shards::VerdictChange;
 
@@ -13,7 +16,14 @@ pub fn is_same(a: &VerdictChange, b: &VerdictChange) -> bool
         && a.kind == b.kind
         && a.holds == b.holds
         && a.operations == b.operations
-        && are_same_faults(a.fault, b.fault)
+        && are_shown_alike(a, b)
+}
+
+/// Whether the same operations show two failures, by their ids and their values; or neither is a failure.
+fn are_shown_alike(a: &VerdictChange, b: &VerdictChange) -> bool
+    ensures { IsTrue result ↔ ((a.now.fault ≡ b.now.fault) × (a.now.values ≡ b.now.values)) }
+{
+    are_same_faults(a.fault, b.fault) && are_same_values(a.values, b.values)
 }
 
 fn are_same_faults(a: Option<Fault>, b: Option<Fault>) -> bool
@@ -55,6 +65,34 @@ fn is_same_fault(a: Fault, b: Fault) -> bool
                 d: h,
             },
         ) => a == e && b == f && c == g && d == h,
+        _ => false,
+    }
+}
+
+fn are_same_values(a: [Option<Value>; 2], b: [Option<Value>; 2]) -> bool
+    ensures { IsTrue result ↔ a ≡ b }
+{
+    let [first, second] = a;
+    let [one, other] = b;
+    first == one && second == other
+}
+
+pub fn is_same_about(a: &About, b: &About) -> bool
+    ensures { IsTrue result ↔ a.now ≡ b.now }
+{
+    a.register == b.register
+        && is_same_written(a.written, b.written)
+        && a.operation == b.operation
+        && a.claims == b.claims
+}
+
+fn is_same_written(a: Written, b: Written) -> bool
+    ensures { IsTrue result ↔ a ≡ b }
+{
+    match (a, b) {
+        (Written::Nothing, Written::Nothing) => true,
+        (Written::Known(value), Written::Known(other)) => value == other,
+        (Written::Unread, Written::Unread) => true,
         _ => false,
     }
 }

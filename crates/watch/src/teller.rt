@@ -3,6 +3,7 @@
 ghost use Rattle.std.specs.Prelude.{◌≡◌, ◌≢◌, ◌++◌, ◌∷◌, [], All, false, List, IsTrue, ◌↔◌};
 ghost use Rattle.watch.specs.declared.settling.Held.{Held as AHeld};
 ghost use Rattle.watch.specs.declared.settling.FeederProgress.{FeederProgress as AProgress};
+ghost use Rattle.watch.specs.Doubt.{AreLeftFor};
 ghost use Rattle.watch.specs.Due.{AreDueFirst, AreHeldFrom, advanced_at, held_notices, is_due};
 ghost use Rattle.watch.specs.Teller.{HasTold, HasWrittenDue, IsToldAll};
 
@@ -51,7 +52,8 @@ impl<'a, 't, W: Write, B: Beginning> Model for Teller<'a, 't, W, B> {
 impl<'a, 't, W: Write, B: Beginning> Teller<'a, 't, W, B> {
     /// A teller over a printer, before the first notice, for feeders that have come so far.
     pub fn new(alloc: Global, printer: Printer<'a, 't, W, B>, progress: Vec<FeederProgress>) -> Self
-        requires before { printer ≡ B.before }
+        requires before { printer.out ≡ B.before }
+        requires left { AreLeftFor B.terms.form [] printer.left }
         ensures { result ≡ record { told = []; held = []; progress = progress.items; state = TellerState.Going } }
     {
         Teller {

@@ -1,12 +1,18 @@
 //! The text of a notice.
 
-ghost use Rattle.std.specs.Prelude.{◌≡◌, ◌++◌, OnOk, IfOk, string_bytes};
-ghost use Rattle.watch.specs.Text.{changed_text, fault_part, line_of_notice, text_of_notice};
+ghost use Rattle.std.specs.Prelude.{◌≡◌, ◌++◌, ◌∷◌, [], List, OnOk, IfOk, string_bytes};
+ghost use Rattle.logs.specs.declared.notice.Notice.{Notice as ANotice};
+ghost use Rattle.records.specs.Json.{json_text};
+ghost use Rattle.records.specs.Notice.{notice_symbols};
+ghost use Rattle.watch.specs.Doubt.{AreLeft, AreLeftFor};
+ghost use Rattle.watch.specs.Text.{changed_text, fault_part, line_of_notice, record_of_notice, text_of_notice};
 
+use crate::doubt::LeftSoFar;
 use logs::Notice;
 use phrases::{kind_word, name_of, push_fault_text, push_printed, verdict_word};
 use records::push_notice;
 use register_book::Fault;
+use report::Doubt;
 use shards::VerdictChange;
 use std::alloc::{AllocError, Global};
 use tower_file::Tower;
@@ -20,28 +26,54 @@ pub enum NoticeForm {
     Record,
 }
 
-/// The text of a notice, with its line end.
-#[tactic(auto, unfolding(crate::specs::Text::text_of_notice))]
+/// The text of a notice, with its line end, after others that say which elements were left out.
 pub fn notice_text(
     alloc: Global,
     tower: &Tower,
     form: NoticeForm,
+    left: &LeftSoFar,
     notice: &Notice,
 ) -> Result<Vec<u8>, AllocError>
-    ensures { IfOk result (λ text. text.items ≡ text_of_notice form tower.now.registers notice.now) }
+    ensures { IfOk result (λ text. (earlier : List ANotice) → AreLeftFor form earlier left.now → text.items ≡ text_of_notice form tower.now.registers earlier notice.now) }
 {
     match form {
-        NoticeForm::Line => {
-            let mut line = String::new(alloc);
-            push_line(&mut line, tower, notice)?;
-            Ok(line.into_bytes())
-        }
-        NoticeForm::Record => {
-            let mut record = Vec::new(alloc);
-            push_notice(alloc, &mut record, tower, notice)?;
-            Ok(record)
-        }
+        NoticeForm::Line => line_text(alloc, tower, notice),
+        NoticeForm::Record => record_text(alloc, tower, left, notice),
     }
+}
+
+fn line_text(alloc: Global, tower: &Tower, notice: &Notice) -> Result<Vec<u8>, AllocError>
+    ensures { IfOk result (λ text. text.items ≡ line_of_notice tower.now.registers notice.now) }
+{
+    let mut line = String::new(alloc);
+    push_line(&mut line, tower, notice)?;
+    Ok(line.into_bytes())
+}
+
+fn record_text(
+    alloc: Global,
+    tower: &Tower,
+    left: &LeftSoFar,
+    notice: &Notice,
+) -> Result<Vec<u8>, AllocError>
+    ensures { IfOk result (λ text. (earlier : List ANotice) → AreLeft earlier left.now → text.items ≡ record_of_notice tower.now.registers earlier notice.now) }
+{
+    let doubt = left.doubt(alloc, notice)?;
+    record_with(alloc, tower, notice, &doubt)
+}
+
+/// The record of a notice, with what is in doubt.
+fn record_with(
+    alloc: Global,
+    tower: &Tower,
+    notice: &Notice,
+    doubt: &Doubt,
+) -> Result<Vec<u8>, AllocError>
+    ensures { IfOk result (λ text. text.items ≡ json_text (notice_symbols tower.now.registers notice.now doubt.now.left_out.items doubt.now.rests_on.items) ++ 10 ∷ []) }
+{
+    let mut record = Vec::new(alloc);
+    push_notice(alloc, &mut record, tower, notice, doubt)?;
+    Ok(record)
 }
 
 fn push_line(text: &mut String, tower: &Tower, notice: &Notice) -> Result<(), AllocError>

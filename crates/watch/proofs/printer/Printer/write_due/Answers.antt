@@ -2,7 +2,7 @@ use Rattle.std.proofs.Common.{◌≡◌, ◌+◌, length, vec_len, sym, subst, t
 use Rattle.watch.specs.declared.settling.Held.{Held}
 use Rattle.watch.specs.declared.teller.TellerState.TheVariants.{Going}
 use Rattle.watch.specs.Due.{has_due, held_notices}
-use Rattle.watch.specs.Teller.{HasTold, IsWritten}
+use Rattle.watch.specs.Teller.{HasTold, WritesOn}
 use Rattle.watch.proofs.Advancing.{due_more, due_one}
 use Rattle.watch.proofs.Telling.{one_less, written_next, written_on}
 use Rattle.watch.proofs.printer.Printer.write_due.Goals as goal
@@ -25,7 +25,7 @@ loop-preserved g c =
     let many : length c.loop.held.items ≡ vec_len c.loop.held = search rules in
     let left : length c.write_first-state.new.held.items ≡ vec_len c.write_first-state.new.held = search rules in
     let less : length c.loop.held.items ≡ 1 + length c.write_first-state.new.held.items =
-    one_less c.loop.held.items c.write_first-state.new.held.items c.write_first-state.result (λ written. IsWritten g.B.Beginning.terms g.B.Beginning.registers (held_notices written) c.write_first-state.result c.loop.self c.write_first-state.new.self)
+    one_less c.loop.held.items c.write_first-state.new.held.items c.write_first-state.result (λ written. WritesOn g.B.Beginning.terms g.B.Beginning.registers (held_notices written) c.write_first-state.result c.loop.self c.write_first-state.new.self)
     (subst HasTold (sym going) tt) c.write_first-state.ensures.written in (
       omega (arith, c.loop.invariant.0, many, left, less),
       due_more c.args.progress.now c.args.held.now.items c.loop.held.items c.write_first-state.new.held.items c.loop.invariant.1
