@@ -8,7 +8,9 @@ use crate::message::{field_word, push_id, tower_word};
 use crate::notes::rests;
 use crate::snippet::{push_mark, push_plain, width_of};
 use crate::source::SourceText;
-use crate::suggest::{instead_in_element, meant_in_element, meant_in_tower, meant_key};
+use crate::suggest::{
+    instead_in_element, meant_in_element, meant_in_tower, meant_key, meant_key_of,
+};
 use crate::tally::{Count, Tally};
 use edn_reader::EdnFault;
 use intervals::{Holder, OpId, Refusal};
@@ -202,12 +204,7 @@ fn push_refused(text: &mut String, case: &Case, event: u64, code: &Code) -> Resu
     push_met(text, case, first)?;
     push_met(text, case, second)?;
     push_marked(text, case, " left out")?;
-    if let Some(word) = meant_by_refused(case, code)? {
-        text.push_str(":")?;
-        push_meant(text, word)?;
-    } else {
-        text.push_str(instead(case, code))?;
-    }
+    push_suggestion(text, case, code)?;
     text.push_str("\n")?;
     push_covered(text, case, code)
 }
@@ -225,33 +222,31 @@ fn push_covered(text: &mut String, case: &Case, code: &Code) -> Result<(), Alloc
     }
 }
 
-/// What a refused element may have meant. The last file, after the traces, is the tower file.
-fn meant_by_refused<'a>(case: &Case<'_, 'a>, code: &Code) -> Result<Option<&'a [u8]>, AllocError> {
-    if case.before >= SUGGESTED {
-        return Ok(None);
+/// What a refused element may have meant, behind its mark, for the first findings of each code. The last file, after the
+/// traces, is the tower file.
+fn push_suggestion(text: &mut String, case: &Case, code: &Code) -> Result<(), AllocError> {
+    let alloc = case.view.alloc;
+    let (Some(element), Some(last)) = (refused_text(case), case.view.sources.last()) else {
+        return Ok(());
+    };
+    if let Some(word) = meant_in_element(alloc, element, code, last.text)? {
+        text.push_str(":")?;
+        return push_meant(text, word);
     }
-    let spot = &case.finding.spot;
-    match (
-        case.source.text.get(spot.start..spot.end),
-        case.view.sources.last(),
-    ) {
-        (Some(element), Some(last)) => {
-            meant_in_element(case.view.alloc, element, code, last.text)
-        }
-        _ => Ok(None),
+    if let Some((key, field)) = meant_key_of(alloc, element, code)? {
+        text.push_str(":")?;
+        return push_unread(text, key, field);
     }
+    text.push_str(instead_in_element(alloc, element, code))
 }
 
-/// What a refused element has in the place of what it lacks, for the first findings of each code.
-fn instead(case: &Case, code: &Code) -> &'static str {
+/// The text of a refused element of which something is suggested.
+fn refused_text<'a>(case: &Case<'_, 'a>) -> Option<&'a [u8]> {
     if case.before >= SUGGESTED {
-        return "";
+        return None;
     }
     let spot = &case.finding.spot;
-    match case.source.text.get(spot.start..spot.end) {
-        Some(element) => instead_in_element(case.view.alloc, element, code),
-        None => "",
-    }
+    case.source.text.get(spot.start..spot.end)
 }
 
 /// What is noted of an element, or of a part of a tower file.

@@ -1,7 +1,7 @@
 //! Words that may have been meant where another one is written.
 
-use crate::message::tower_word;
-use crate::nearest::{distance, is_close};
+use crate::message::{field_word, tower_word};
+use crate::nearest::{distance, is_close, meant_by};
 use crate::snippet::part_of;
 use crate::tower::names_in;
 use edn_reader::{Element, Field, Reader};
@@ -171,6 +171,39 @@ pub fn meant_key<'t>(
         }
     }
     Ok(None)
+}
+
+/// The key of a refused element that may have been meant for the field that it lacks, and that field.
+pub fn meant_key_of<'t>(
+    alloc: Global,
+    text: &'t [u8],
+    code: &Code,
+) -> Result<Option<(&'t [u8], &'static str)>, AllocError> {
+    let (Some(field), Some(element)) = (lacked(code), element_in(alloc, text)) else {
+        return Ok(None);
+    };
+    let Some(map) = element.as_map() else {
+        return Ok(None);
+    };
+    let mut left = map;
+    while let Some((key, _)) = left.next_pair() {
+        if meant_by(alloc, &key, &map, &[field])?.is_some() {
+            return Ok(Some((key.text(), field_word(field))));
+        }
+    }
+    Ok(None)
+}
+
+/// The field that an element lacks by its code, where other keys may be near it.
+fn lacked(code: &Code) -> Option<FormField> {
+    match code {
+        Code::Form(
+            FormFault::MissingField(
+                field @ (FormField::Process | FormField::Stage | FormField::Value),
+            ),
+        ) => Some(*field),
+        _ => None,
+    }
 }
 
 fn element_in<'t>(alloc: Global, text: &'t [u8]) -> Option<Element<'t>> {
