@@ -16,12 +16,13 @@
       (run! prn forms))))
 
 (defn audit
-  "Writes the tower file and the trace to the folder, has them judged, and keeps the records beside them; unless all holds
-  and nothing was refused, the page of what fails too.
+  "Writes the tower file and the trace to the folder, has them judged, and keeps the records beside them. Unless all
+  holds and nothing was refused it keeps the page of what fails too.
   All that a client did is handed over: an operation that is neither read nor write is refused, and so it is counted.
   A register that fails is in doubt where that rests on what was refused; where each culprit is, nobody knows."
   [{:keys [program folder initial options] :or {program "regaudit"}} history]
-  (let [[tower-file trace kept page] (map #(str (io/file folder %)) ["tower.edn" "trace.edn" "records.edn" "audit.html"])
+  (let [names ["tower.edn" "trace.edn" "records.edn" "audit.html"]
+        [tower-file trace kept page] (map #(str (io/file folder %)) names)
         ops (filter #(integer? (:process %)) history)]
     (write-forms tower-file [(tower ops initial)])
     (write-forms trace (map #(select-keys % [:process :type :f :value :index]) ops))
@@ -33,7 +34,9 @@
           failed (if (every? (comp seq :rests_on) culprits) :unknown false)]
       (spit kept (str out err))
       (when-not (zero? exit)
-        (spit page (:out (apply sh program (concat ["show" "--html" "--tower" tower-file] options [trace])))))
+        (let [words (concat ["show" "--html" "--tower" tower-file] options [trace])]
+          (when-let [drawn (not-empty (:out (apply sh program words)))]
+            (spit page drawn))))
       {:valid? (if (= :end (:t (peek records))) (get {0 true, 1 failed} exit :unknown) :unknown)
        :status exit
        :culprits (mapv :name culprits)
