@@ -20,18 +20,16 @@ use Rattle.command_parts.specs.Status.{IsStatus}
 use Rattle.command_parts.specs.Kept.{AreKeptIf}
 
 -- `AreTheir known` says that the files hold these texts
-pub checked : (held : Option (List ℕ)) (asked : AskedCheck) (tower : TowerModel) (order : Option RegId) (closed : List ClosedShard) (logs : List Log) (lefts : List (Option (List ℕ))) (AreTheir : List (List ℕ) → Type 0) (kept : List (List ℕ)) (status : ℕ) (old new : Option (List ℕ))
-    → IfSome held (λ file. IsTowerOf file tower)
+pub checked : (asked : AskedCheck) (tower : TowerModel) (order : Option RegId) (closed : List ClosedShard) (logs : List Log) (lefts : List (Option (List ℕ))) (AreTheir : List (List ℕ) → Type 0) (kept : List (List ℕ)) (status : ℕ) (old new : Option (List ℕ))
     → IsNamed tower asked.order order
     → ((known : List (List ℕ)) → AreTheir known → lefts ≡ map (λ text. Some text) known)
     → ((read : List (List ℕ)) × AreReadOf lefts logs read × IsRun tower asked.moments asked.shards read closed logs)
     → AreKeptIf (has_records asked.form) lefts logs kept
     → ((text : List ℕ) × IsPrinted asked status tower closed logs order kept text × Appends old new text)
     → IsStatus tower closed logs asked.demand status
-    → IfSome held (λ file. (traces : List (List ℕ)) → AreTheir traces → IsChecked asked file traces status old new)
-checked None asked tower order closed logs lefts AreTheir kept status old new says named opened run are_kept report is = search rules
-checked (Some file) asked tower order closed logs lefts AreTheir kept status old new says named opened run are_kept report is =
-    λ traces are. record {
+    → (file : List ℕ) → IsTowerOf file tower → (traces : List (List ℕ)) → AreTheir traces → IsChecked asked file traces status old new
+checked asked tower order closed logs lefts AreTheir kept status old new named opened run are_kept report is =
+    λ file says traces are. record {
       tower = tower;
       says = says;
       order = order;

@@ -21,7 +21,7 @@ use Rattle.words.specs.declared.demand.Demand.{Demand}
 use Rattle.words.specs.declared.check.ReportForm.TheVariants.{Report, Summary, Json, Edn}
 use Rattle.jepsen_form.specs.declared.item.MomentField.{MomentField}
 use Rattle.jepsen_form.specs.declared.item.MomentField.TheVariants.{Index, Time}
-use Rattle.words.specs.Words.{AskedCheck, has_records}
+use Rattle.words.specs.Words.{AskedCheck, file_of, has_records}
 use Rattle.command_parts.specs.declared.fault.CommandFault.{CommandFault}
 use Rattle.command_parts.specs.declared.fault.CommandFault.TheVariants.{Memory, Unwritable}
 use Rattle.command_parts.specs.Kept.{AreKeptIf}
@@ -39,7 +39,7 @@ least_asked demand = record { all = demand.least; each = demand.least_each }
 
 -- what the first and the last record of a run name
 abbrev pub record_names : AskedCheck → RunNames
-record_names asked = record { tower = asked.tower; traces = asked.traces; moments = moment_word asked.moments; least = least_asked asked.demand }
+record_names asked = record { tower = file_of asked.tower; traces = asked.traces; moments = moment_word asked.moments; least = least_asked asked.demand }
 
 -- the text has the records of a run in this notation, with the lines and the bytes of elements in the texts that were
 -- kept of the traces

@@ -3,10 +3,11 @@
 ghost use Rattle.std.specs.Prelude.{◌≡◌, ◌≢◌, ◌≤◌, ◌<◌, ℕ, List, Err, IfOk, IfErr, IfSome, OnOk, length, map};
 ghost use Rattle.std.specs.Io.KnownBytes.{Appends};
 ghost use Rattle.report.specs.Finding.{IsOfTower};
-ghost use Rattle.words.specs.Words.{asked_check};
+ghost use Rattle.words.specs.Words.{asked_check, asked_tower};
 ghost use Rattle.records.specs.Run.{names_of};
 ghost use Rattle.check_command.specs.Checked.{ArePrinted, IsChecked, IsPrintedIn, least_asked, moment_word, record_names, unreported};
 ghost use Rattle.command_parts.specs.Files.{AreHeld};
+ghost use Rattle.command_parts.specs.Tower.{OfTower};
 
 use command_parts::{CommandFault, Files, Job, Judged, OpenedRun, judge, open_run, status_after};
 use intervals::RegId;
@@ -23,8 +24,9 @@ use tower_file::Tower;
 use words::{Check, Demand, ReportForm};
 
 /// Judges the registers of a tower by traces while these are read, and writes the report, also where a trace or its
-/// reading breaks off. The faults come in this order: too many traces, the tower file, the register whose order is
-/// asked for, a trace that cannot be opened, the run, the writing. All traces are opened before any is read.
+/// reading breaks off. The faults come in this order: too many traces, the tower file, or a trace that cannot be read for
+/// what it names, the register whose order is asked for, a trace that cannot be opened, the run, the writing. All traces
+/// are opened before any is fed.
 pub fn check<'a, A: AllocGlobal + Threads + Wait + Sync, F: Files, W: Write>(
     rt: &A,
     asked: &Check<'a>,
@@ -33,7 +35,7 @@ pub fn check<'a, A: AllocGlobal + Threads + Wait + Sync, F: Files, W: Write>(
 ) -> Result<u8, CommandFault<'a>>
     requires shards { (1 ≤ asked.now.shards) × (asked.now.shards ≤ 64) }
     requires traces { 0 < length asked.now.traces.items }
-    ensures checked { IfOk result (λ status. IfSome (F.held files.old asked.entry.now.tower.now) (λ file. (traces : List (List ℕ))
+    ensures checked { IfOk result (λ status. OfTower (asked_tower asked.entry.now.tower) (F.held files.old) (map (λ name. name.now) asked.entry.now.traces.items) (λ file. (traces : List (List ℕ))
         → AreHeld (F.held files.old) (map (λ name. name.now) asked.entry.now.traces.items) traces
         → IsChecked (asked_check asked.entry.now) file traces status (W.contents out.old) (W.contents out.new))) }
     ensures quiet { IfErr result (λ fault. fault ≢ CommandFault.Unwritable → out.new ≡ out.old) }
@@ -157,7 +159,7 @@ fn form_of<'b>(asked: &'b Check<'_>, notation: Notation, outcome: &Outcome) -> F
     Form {
         notation,
         only_failing: asked.only_failing,
-        tower: asked.tower,
+        tower: asked.tower.file(),
         traces: &asked.traces,
         moments: moment_word(asked.moments),
         order: outcome.order,

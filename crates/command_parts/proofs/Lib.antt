@@ -2,3 +2,7 @@
 pub mod Readings
 -- the texts that are kept of traces
 pub mod KeptTexts
+-- what traces name, whose bytes are known
+mod NamedIn
+-- what is so of the tower file that is asked for
+pub mod Towers

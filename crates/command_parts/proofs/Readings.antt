@@ -1,6 +1,6 @@
 -- What was read of files whose bytes are known.
 use Rattle.std.proofs.Common.{◌≡◌, ◌∙◌, ◌<◌, ℕ, zero, suc, ◌+◌, List, [], ◌∷◌, ◌++◌, map, length, get_or, take, Option, Some, None, sym, ap, subst, rules, arith, refl, Vec, Global}
-use Rattle.std.proofs.lemmas.List.{length-map, map_more, take_all}
+use Rattle.std.proofs.lemmas.List.{length-map, map_more}
 use Rattle.std.specs.Prelude.{IfSome}
 use Rattle.std.specs.Borrow.{Bor}
 use Rattle.tower_file.specs.Contents.{TowerModel}
@@ -22,7 +22,7 @@ held_at files (name ∷ names) [] i d within held = search rules
 held_at files (name ∷ names) (text ∷ known) zero d within held = ap (λ (found : List (Option (List ℕ))). get_or found 0 None) held
 held_at files (name ∷ names) (text ∷ known) (suc i) d within held = held_at files names known i d (omega arith) (ap tail held)
 
-as_many : (files : List ℕ → Option (List ℕ)) (names : List (Bor (List ℕ))) (known : List (List ℕ)) → AreHeld files (map (λ name. name.now) names) known → length known ≡ length names
+pub as_many : (files : List ℕ → Option (List ℕ)) (names : List (Bor (List ℕ))) (known : List (List ℕ)) → AreHeld files (map (λ name. name.now) names) known → length known ≡ length names
 as_many files names known held =
     sym (length-map known (λ text. Some text)) ∙ sym (ap length held) ∙ length-map (map (λ name. name.now) names) files ∙ length-map names (λ name. name.now)
 
@@ -55,3 +55,12 @@ read_known (text ∷ texts) (one ∷ known) same =
     let head : text.items ≡ one = cc in
     let rest : map (λ text. Some text.items) texts ≡ map (λ text. Some text) known = ap tail same in
     rw (head, read_known texts known rest) refl
+
+known_by : (found : Option (List ℕ)) (text known : List ℕ) → found ≡ Some known → IfSome found (λ bytes. text ≡ bytes) → text ≡ known
+known_by found text known is read = let P : Option (List ℕ) → Type 0 = λ o. IfSome o (λ bytes. text ≡ bytes) in subst P is read
+
+-- what was read of the file of a number is what is known of it
+pub known_at : (files later : List ℕ → Option (List ℕ)) (names : List (Bor (List ℕ))) (known : List (List ℕ)) (text : List ℕ) (i : ℕ) (d : Bor (List ℕ)) → i < length names → later ≡ files → IfSome (later (get_or names i d).now) (λ bytes. text ≡ bytes)
+    → AreHeld files (map (λ name. name.now) names) known → text ≡ get_or known i []
+known_at files later names known text i d within stays read held =
+    known_by _ text _ (ap (λ (f : List ℕ → Option (List ℕ)). f (get_or names i d).now) stays ∙ held_at files names known i d within held) read

@@ -5,7 +5,7 @@ use Rattle.shards.specs.Code.{shard_fault_code}
 use Rattle.feeders.specs.declared.fault.RunFault.{RunFault}
 use Rattle.feeders.specs.declared.fault.RunFault.TheVariants as runs
 use Rattle.command_parts.specs.declared.fault.CommandFault.{CommandFault}
-use Rattle.command_parts.specs.declared.fault.CommandFault.TheVariants.{Usage, TooManyTraces, Unreadable, Tower, NoRegister, NoCode, NoNote, Shard, Memory, Unwritable, Untold}
+use Rattle.command_parts.specs.declared.fault.CommandFault.TheVariants.{Usage, TooManyTraces, Unreadable, ReadOnce, Tower, NoRegister, NoCode, NoNote, Shard, Memory, Unwritable, Untold}
 use Rattle.feeders.specs.declared.whole.InputFault.{InputFault}
 use Rattle.feeders.specs.declared.whole.InputFault.TheVariants as inputs
 use Rattle.phrases.specs.Names.{printed}
@@ -15,6 +15,8 @@ abbrev pub complaint_of : CommandFault → Option (List ℕ)
 complaint_of (Usage error) = None
 complaint_of TooManyTraces = Some (codes "regaudit: too many traces" ++ 10 ∷ [])
 complaint_of (Unreadable name) = Some (codes "regaudit: cannot read " ++ printed name.now ++ 10 ∷ [])
+complaint_of (ReadOnce name) =
+    Some (codes "regaudit: " ++ printed name.now ++ codes " can be read only once: name a tower file by --tower; regaudit keys writes one" ++ 10 ∷ [])
 complaint_of (Tower code) = Some (codes "regaudit: tower " ++ code.now ++ 10 ∷ [])
 complaint_of (NoRegister name) = Some (codes "regaudit: no register " ++ printed name.now ++ 10 ∷ [])
 complaint_of (NoCode name) = Some (codes "regaudit: no code " ++ printed name.now ++ codes "; regaudit explain lists them" ++ 10 ∷ [])

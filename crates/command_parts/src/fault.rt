@@ -22,6 +22,8 @@ pub enum CommandFault<'a> {
     /// A file that cannot be opened; or one that has to be read whole, a tower file or a trace of `lint`, and cannot be
     /// or is too long.
     Unreadable(&'a str),
+    /// A trace that has to be read twice, first for what it names, and is a pipe or the like.
+    ReadOnce(&'a str),
     /// A tower file with a fault, by its code.
     Tower(&'static str),
     /// The tower has no register of the name that `--order` or `--register` gives.
@@ -107,6 +109,12 @@ fn complaint(alloc: Global, fault: &CommandFault<'_>) -> Result<String, AllocErr
         CommandFault::Usage(error) => write!(text, "{error}")?,
         CommandFault::TooManyTraces => text.push_str("regaudit: too many traces\n")?,
         CommandFault::Unreadable(name) => push_line(&mut text, "regaudit: cannot read ", name, "")?,
+        CommandFault::ReadOnce(name) => push_line(
+            &mut text,
+            "regaudit: ",
+            name,
+            " can be read only once: name a tower file by --tower; regaudit keys writes one",
+        )?,
         CommandFault::Tower(code) => {
             text.push_str("regaudit: tower ")?;
             text.push_str(code)?;

@@ -20,6 +20,10 @@ pub trait Files {
     // The bytes that a file of that name holds, where they are known.
     ghost held: { Self → List ℕ → Option (List ℕ) } = { λ _ _. None };
 
+    /// Whether what is read of the file is gone then, as of a pipe; false where there is no such file.
+    fn is_read_once(&mut self, name: &str) -> bool
+        ensures stays { held self.new ≡ held self.old };
+
     fn open(&mut self, name: &str) -> Result<Self::Reader, Missing>
         ensures reader { IfOk result (λ reader. IfSome (held self.old name.now) (λ bytes. Self.Reader.remaining reader ≡ Some bytes)) }
         ensures stays { held self.new ≡ held self.old };
@@ -42,6 +46,13 @@ where
     R::File: Send,
 {
     type Reader = R::File;
+
+    fn is_read_once(&mut self, name: &str) -> bool {
+        match fs::metadata(self.rt, name) {
+            Ok(metadata) => !metadata.is_file() && !metadata.is_dir(),
+            Err(_) => false,
+        }
+    }
 
     fn open(&mut self, name: &str) -> Result<R::File, Missing> {
         match fs::open(self.rt, name) {
@@ -81,6 +92,19 @@ pub fn open_files<'a, F: Files>(
         readers.push_reserved(open_file(files, name)?);
     }
     Ok(readers)
+}
+
+/// Refuses a file that cannot be read twice.
+pub fn need_again<'a, F: Files>(files: &mut F, names: &[&'a str]) -> Result<(), CommandFault<'a>>
+    ensures stays { F.held files.new ≡ F.held files.old }
+    ensures quiet { IfErr result (λ fault. fault ≢ CommandFault.Unwritable) }
+{
+    for name in names {
+        if files.is_read_once(name) {
+            return Err(CommandFault::ReadOnce(name));
+        }
+    }
+    Ok(())
 }
 
 /// All the bytes of a file.

@@ -1,6 +1,6 @@
 //! What the commands of the program share.
 //!
-//!     let opened = open_run(alloc, files, name, None, &traces)?;    // a file's tower, and a reader for each trace
+//!     let opened = open_run(alloc, files, tower, None, &traces)?;   // the tower, and a reader for each trace
 //!     let judged = judge(&job, keeps, opened.readers)?;             // what they give, fed to the tower's registers
 //!     let status = status_after(alloc, demand, &opened.tower, &judged.run)?; // by what broke, failed or was refused
 //!     say(alloc, fault, err)                                        // why a command broke off, as it is printed
@@ -15,6 +15,7 @@ mod files;
 mod job;
 mod judging;
 mod kept;
+mod naming;
 mod opening;
 mod status;
 mod tower;
@@ -24,7 +25,8 @@ pub use fault::{CommandFault, say};
 pub use files::{Files, HostFiles, Missing, open_file, open_files, read_file, read_files};
 pub use job::{Job, TRACE_LIMIT};
 pub use judging::{Judged, judge};
+pub use naming::{WrittenNames, write_names};
 pub use opening::{OpenedRun, open_run};
 pub use status::{BROKEN, is_refused, status_after, status_of};
-pub use tower::{named, read_tower, the_tower};
-pub use write::write_text;
+pub use tower::{named, read_tower, the_tower, tower_in};
+pub use write::{write_bytes, write_text};

@@ -1,16 +1,21 @@
-//! Towers: the one that a file says, with a register by its name, and that of one register.
+//! Towers: the one that a file says, or that traces name, with a register by its name; and that of one register.
 
-ghost use Rattle.std.specs.Prelude.{◌≡◌, ◌≢◌, ◌<◌, IfOk, IfErr, IfSome, length, option_map};
+ghost use Rattle.std.specs.Prelude.{◌≡◌, ◌≢◌, ◌<◌, ℕ, List, IfOk, IfErr, IfSome, length, map, option_map};
 ghost use Rattle.tower_file.specs.Alone.{alone_tower};
 ghost use Rattle.tower_file.specs.Tower.{IsTowerOf};
-ghost use Rattle.command_parts.specs.Tower.{IsNamed};
+ghost use Rattle.words.specs.Words.{asked_tower};
+ghost use Rattle.command_parts.specs.Files.{AreHeld};
+ghost use Rattle.command_parts.specs.Tower.{IsNamed, OfNames, OfTower, claim_each};
 
 use crate::fault::CommandFault;
-use crate::files::{Files, read_file};
-use intervals::RegId;
+use crate::files::{Files, need_again, read_file};
+use crate::naming::{names_of, write_names};
+use intervals::{Initial, Kind, RegId, Value};
+use keys::NameClaim;
 use std::alloc::Global;
 use tower_file::laws::text_of_one_register;
 use tower_file::{Tower, one_register};
+use words::TowerWord;
 
 /// The tower that a file says.
 pub fn read_tower<'a, F: Files>(
@@ -23,9 +28,74 @@ pub fn read_tower<'a, F: Files>(
     ensures quiet { IfErr result (λ fault. fault ≢ CommandFault.Unwritable) }
 {
     let bytes = read_file(alloc, files, name)?;
-    match Tower::read(alloc, &bytes) {
+    tower_of(alloc, &bytes)
+}
+
+/// The tower that bytes say.
+fn tower_of<'a>(alloc: Global, bytes: &[u8]) -> Result<Tower, CommandFault<'a>>
+    ensures tower { IfOk result (λ tower. IsTowerOf bytes.now tower) }
+    ensures quiet { IfErr result (λ fault. fault ≢ CommandFault.Unwritable) }
+{
+    match Tower::read(alloc, bytes) {
         Ok(tower) => Ok(tower),
         Err(fault) => Err(CommandFault::of_tower(fault)),
+    }
+}
+
+/// The tower that is asked for: that of a file, or that of the registers that the traces name, which are read for that.
+pub(crate) fn asked_for<'a, F: Files>(
+    alloc: Global,
+    files: &mut F,
+    tower: TowerWord<'a>,
+    traces: &[&'a str],
+) -> Result<Tower, CommandFault<'a>>
+    ensures tower { IfOk result (λ read. OfTower (asked_tower tower.entry) (F.held files.old) (map (λ name. name.now) traces.entry.now) (λ file. IsTowerOf file read)) }
+    ensures stays { F.held files.new ≡ F.held files.old }
+    ensures quiet { IfErr result (λ fault. fault ≢ CommandFault.Unwritable) }
+{
+    match tower {
+        TowerWord::File(name) => read_tower(alloc, files, name),
+        TowerWord::Each(kind) => tower_named(alloc, files, kind, traces),
+    }
+}
+
+/// The tower of the registers that the traces name, each of this kind.
+fn tower_named<'a, F: Files>(
+    alloc: Global,
+    files: &mut F,
+    kind: Kind,
+    traces: &[&'a str],
+) -> Result<Tower, CommandFault<'a>>
+    ensures tower { IfOk result (λ read. (texts : List (List ℕ)) → AreHeld (F.held files.old) (map (λ name. name.now) traces.entry.now) texts → OfNames kind texts (λ file. IsTowerOf file read)) }
+    ensures stays { F.held files.new ≡ F.held files.old }
+    ensures quiet { IfErr result (λ fault. fault ≢ CommandFault.Unwritable) }
+{
+    need_again(files, traces)?;
+    let written = write_names(alloc, files, &claim_each(kind), traces)?;
+    tower_of(alloc, &written.file)
+}
+
+/// The tower of the registers that these texts name, each of this kind.
+pub fn tower_in<'a>(alloc: Global, kind: Kind, texts: &[&[u8]]) -> Result<Tower, CommandFault<'a>>
+    ensures tower { IfOk result (λ read. OfNames kind (map (λ text. text.now) texts.now) (λ file. IsTowerOf file read)) }
+    ensures quiet { IfErr result (λ fault. fault ≢ CommandFault.Unwritable) }
+{
+    let Ok(written) = names_of(alloc, &claim_each(kind), texts) else {
+        return Err(CommandFault::Memory);
+    };
+    tower_of(alloc, &written.file)
+}
+
+fn claim_each(kind: Kind) -> NameClaim
+    ensures { result ≡ claim_each kind }
+{
+    NameClaim {
+        kind,
+        initial: Initial::Known(Value::Nil),
+        any_writes: match kind {
+            Kind::Atomic => true,
+            Kind::Safe | Kind::Regular => false,
+        },
     }
 }
 

@@ -9,6 +9,13 @@ use std::io::{self, Write};
 pub fn write_text<W: Write>(out: &mut W, text: &str) -> io::Result<()>
     ensures { OnOk result (Appends (W.contents out.old) (W.contents out.new) text.now) }
 {
-    out.write_all(text.as_bytes())?;
+    write_bytes(out, text.as_bytes())
+}
+
+/// Writes bytes in one write, with one flush after it.
+pub fn write_bytes<W: Write>(out: &mut W, bytes: &[u8]) -> io::Result<()>
+    ensures { OnOk result (Appends (W.contents out.old) (W.contents out.new) bytes.now) }
+{
+    out.write_all(bytes)?;
     out.flush()
 }

@@ -2,7 +2,7 @@
 use Rattle.std.proofs.Common.{◌≡◌, inl, ℕ, List, Option, Some, None}
 use Rattle.std.specs.Prelude.{IfSome}
 use Rattle.clap.specs.Words.{Text}
-use Rattle.words.specs.Words.{Asked, Safe, Check, Watch, Show, Lint, Tower, Explain, Version, Manual, Completion}
+use Rattle.words.specs.Words.{Asked, Safe, Check, Watch, Show, Lint, Keys, Tower, Explain, Version, Manual, Completion}
 use Rattle.commands.specs.Run.{WritesWhole}
 
 as_before : (command : Asked) (files : Text → Option (List ℕ)) (old new : Option (List ℕ)) → new ≡ old → WritesWhole command files old new
@@ -11,6 +11,7 @@ as_before (Safe name) files old new same = tt
 as_before (Check check) files old new same = tt
 as_before (Show show) files old new same = tt
 as_before (Lint lint) files old new same = tt
+as_before (Keys keys) files old new same = tt
 as_before (Tower name) files old new same = tt
 as_before (Explain code) files old new same = tt
 as_before Version files old new same = tt

@@ -1,5 +1,5 @@
 -- What a run of the program did.
-use Rattle.std.specs.Prelude.{◌≡◌, ℕ, List, Option, Some, None, IfSome}
+use Rattle.std.specs.Prelude.{◌≡◌, ℕ, Bool, false, not, List, Option, Some, None, IfSome}
 use Rattle.std.specs.Io.KnownBytes.{Appends}
 use Rattle.clap.specs.Words.{Text}
 use Rattle.tower_file.specs.Contents.{TowerModel}
@@ -7,8 +7,11 @@ use Rattle.tower_file.specs.Tower.{IsTowerOf}
 use Rattle.report.specs.Listing.{tower_lines}
 use Rattle.texts.specs.declared.version.TheConstants.{VERSION}
 use Rattle.words.specs.Completion.{script_for}
-use Rattle.words.specs.Words.{Asked, Safe, Check, Watch, Show, Lint, Tower, Explain, Version, Manual, Completion, IsWellFormed, asked}
+use Rattle.words.specs.Words.{Asked, AskedKeys, Safe, Check, Watch, Show, Lint, Keys, Tower, Explain, Version, Manual, Completion, IsWellFormed, asked}
+use Rattle.keys.specs.declared.file.NameClaim.{NameClaim}
 use Rattle.command_parts.specs.Files.{AreHeld}
+use Rattle.command_parts.specs.Status.{status_of}
+use Rattle.command_parts.specs.Tower.{IsFileOfNames, OfTower}
 use Rattle.commands.specs.Printed.{IsExplained, IsManual, IsPrintedText}
 use Rattle.check_command.specs.Verdict.{IsAudited}
 use Rattle.check_command.specs.Checked.{IsChecked}
@@ -23,18 +26,33 @@ pub record IsListed (file : List ℕ) (status : ℕ) (old new : Option (List ℕ
   pub written : Appends old new (tower_lines tower)
   pub status_is : status ≡ 0
 
+-- what each register claims that `keys` writes
+abbrev pub claim_asked : AskedKeys → NameClaim
+claim_asked asked = record { kind = asked.kind; initial = asked.initial; any_writes = asked.any_writes }
+
+-- what `keys` did: the tower file of what the traces name was written, up to the first fault of each; the status is 2 where
+-- one has a fault
+pub record IsNaming (asked : AskedKeys) (traces : List (List ℕ)) (status : ℕ) (old new : Option (List ℕ)) : Type 0 where
+  pub whole : Bool
+  pub file : List ℕ
+  pub is : IsFileOfNames (claim_asked asked) traces whole file
+  pub written : Appends old new file
+  pub status_is : status ≡ status_of (not whole) false false false
+
 -- the command was carried out, over files and a standard input whose bytes are known
 abbrev pub IsCarriedOut : Asked → (Text → Option (List ℕ)) → Option (List ℕ) → ℕ → Option (List ℕ) → Option (List ℕ) → Type 0
 IsCarriedOut (Safe None) files input status old new = IfSome input (λ bytes. IsAudited bytes status old new)
 IsCarriedOut (Safe (Some name)) files input status old new = IfSome (files name) (λ bytes. IsAudited bytes status old new)
 IsCarriedOut (Check check) files input status old new =
-    IfSome (files check.tower) (λ file. (traces : List (List ℕ)) → AreHeld files check.traces traces → IsChecked check file traces status old new)
+    OfTower check.tower files check.traces (λ file. (traces : List (List ℕ)) → AreHeld files check.traces traces → IsChecked check file traces status old new)
 IsCarriedOut (Watch watch) files input status old new =
-    IfSome (files watch.tower) (λ file. (traces : List (List ℕ)) → AreHeld files watch.traces traces → IsFollowed watch file traces status old new)
+    OfTower watch.tower files watch.traces (λ file. (traces : List (List ℕ)) → AreHeld files watch.traces traces → IsFollowed watch file traces status old new)
 IsCarriedOut (Show show) files input status old new =
-    IfSome (files show.tower) (λ file. (traces : List (List ℕ)) → AreHeld files show.traces traces → IsShown show file traces status old new)
+    OfTower show.tower files show.traces (λ file. (traces : List (List ℕ)) → AreHeld files show.traces traces → IsShown show file traces status old new)
 IsCarriedOut (Lint lint) files input status old new =
     (traces : List (List ℕ)) → AreHeld files lint.traces traces → IsLooked lint files traces status old new
+IsCarriedOut (Keys keys) files input status old new =
+    (traces : List (List ℕ)) → AreHeld files keys.traces traces → IsNaming keys traces status old new
 IsCarriedOut (Explain code) files input status old new = IsExplained code status old new
 IsCarriedOut Version files input status old new = IsPrintedText VERSION.now status old new
 IsCarriedOut Manual files input status old new = IsManual status old new
@@ -48,7 +66,7 @@ IsWatch command = ⊥
 
 -- where the command is a watch that broke off, it wrote nothing or whole notices alone
 abbrev pub WritesWhole : Asked → (Text → Option (List ℕ)) → Option (List ℕ) → Option (List ℕ) → Type 0
-WritesWhole (Watch watch) files old new = HasWholeNotices watch (files watch.tower) old new
+WritesWhole (Watch watch) files old new = HasWholeNotices watch files old new
 WritesWhole command files old new = Unit {0}
 
 -- the words are well formed and ask for `safe` on standard input

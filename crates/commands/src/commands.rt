@@ -1,15 +1,19 @@
 //! A run of the program: its words, its command and its status.
 
-ghost use Rattle.std.specs.Prelude.{◌≡◌, ◌≢◌, IsErr, IfOk, IfErr, IfSome, MatchResult, None, map};
+ghost use Rattle.std.specs.Prelude.{◌≡◌, ◌≢◌, ℕ, List, IsErr, IfOk, IfErr, IfSome, MatchResult, None, map};
 ghost use Rattle.std.specs.Result.{IsOkAnd};
 ghost use Rattle.std.specs.Io.KnownBytes.{Keeps};
-ghost use Rattle.words.specs.Words.{HasShards, HasTraces, Safe, asked, asked_of};
+ghost use Rattle.words.specs.Words.{HasShards, HasTraces, Safe, asked, asked_keys, asked_of};
+ghost use Rattle.command_parts.specs.Files.{AreHeld};
 ghost use Rattle.check_command.specs.Verdict.{IsAudited};
-ghost use Rattle.commands.specs.Run.{IsListed, IsCarriedOut, IsDone, IsWatch, WantInput, WritesWhole};
+ghost use Rattle.commands.specs.Run.{IsListed, IsNaming, IsCarriedOut, IsDone, IsWatch, WantInput, WritesWhole};
 
 use crate::print::{explain, print, print_manual};
 use check_command::{check, safe};
-use command_parts::{BROKEN, CommandFault, Files, open_file, read_tower, say};
+use command_parts::{
+    BROKEN, CommandFault, Files, open_file, read_tower, say, status_of, write_bytes, write_names,
+};
+use keys::NameClaim;
 use lint_command::look;
 use report::tower_text;
 use show_command::draw;
@@ -21,7 +25,7 @@ use std::thread::Threads;
 use std::{env, io};
 use texts::VERSION;
 use watch_command::follow;
-use words::{Command, read_words};
+use words::{Command, Keys, read_words};
 
 /// Carries out the command that the words ask for. The words are as the system hands them over; the first is the
 /// program's name. What is found goes to `out`. The status is 2 where a trace or its reading broke off, whose line or
@@ -131,11 +135,35 @@ fn run_command<
         Command::Watch(asked) => follow(rt, asked, files, out),
         Command::Show(asked) => draw(rt, asked, files, out),
         Command::Lint(asked) => look(rt, asked, files, out),
+        Command::Keys(asked) => name_keys(rt, asked, files, out),
         Command::Tower(name) => list(rt, name, files, out),
         Command::Explain(code) => explain(rt.alloc(), *code, out),
         Command::Version => print(VERSION, out),
         Command::Manual => print_manual(rt.alloc(), out),
         Command::Completion(shell) => print(shell.script(), out),
+    }
+}
+
+/// Writes the tower file of the registers that traces name.
+fn name_keys<'a, A: AllocGlobal, F: Files, W: Write>(
+    rt: &A,
+    asked: &Keys<'a>,
+    files: &mut F,
+    out: &mut W,
+) -> Result<u8, CommandFault<'a>>
+    ensures naming { IfOk result (λ status. (traces : List (List ℕ)) → AreHeld (F.held files.old) (map (λ name. name.now) asked.entry.now.traces.items) traces
+        → IsNaming (asked_keys asked.entry.now) traces status (W.contents out.old) (W.contents out.new)) }
+    ensures quiet { IfErr result (λ fault. fault ≢ CommandFault.Unwritable → out.new ≡ out.old) }
+{
+    let claim = NameClaim {
+        kind: asked.kind,
+        initial: asked.initial,
+        any_writes: asked.any_writes,
+    };
+    let written = write_names(rt.alloc(), files, &claim, &asked.traces)?;
+    match write_bytes(out, &written.file) {
+        Ok(()) => Ok(status_of(!written.whole, false, false, false)),
+        Err(_) => Err(CommandFault::Unwritable),
     }
 }
 

@@ -148,7 +148,7 @@ fn event_gist(form: &EventFields, tower: &Tower, said: &ParsedValue, inner: &Par
     }
 }
 
-fn process_said(process: &Field) -> Option<i64>
+pub fn process_said(process: &Field) -> Option<i64>
     ensures { result ≡ process_said (seen process.now) }
 {
     match process {

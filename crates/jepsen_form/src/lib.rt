@@ -13,8 +13,8 @@
 //!
 //! The first row of `tests/form_tests/items.rattle` is this element; its other rows have each form and each
 //! fault. Begin with `read_item`: its clauses name the item of an element (`specs/Item.antt`, over the fields of
-//! `Fields.antt`) and what each item has (`Whole.antt`). `Form.antt` serves private clauses alone. `laws` says that
-//! each element has one item.
+//! `Fields.antt`) and what each item has (`Whole.antt`). `mention_of` says which register an element names where there is
+//! no tower yet (`Mention.antt`). `Form.antt` serves private clauses alone. `laws` says that each element has one item.
 #![tactic(auto)]
 
 mod edit;
@@ -25,10 +25,12 @@ mod form;
 mod gist;
 mod item;
 pub mod laws;
+mod mention;
 mod read;
 mod said;
 
 pub use fault::{FormFault, FormField};
 pub use gist::{Gist, RefusedForm, Written};
 pub use item::{Action, Event, Item, MomentField, Stage};
+pub use mention::{Mention, mention_of};
 pub use read::{read_first, read_item};

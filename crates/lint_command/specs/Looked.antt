@@ -3,8 +3,8 @@ use Rattle.std.specs.Prelude.{◌≡◌, ◌<◌, ◌⊎◌, ◌++◌, ◌∷◌
 use Rattle.std.specs.Borrow.{Bor}
 use Rattle.std.specs.Io.KnownBytes.{Appends}
 use Rattle.clap.specs.Words.{Text}
+use Rattle.intervals.specs.declared.claim.Kind.{Kind}
 use Rattle.jepsen_form.specs.declared.item.MomentField.{MomentField}
-use Rattle.tower_file.specs.Alone.{alone_tower}
 use Rattle.tower_file.specs.Contents.{TowerModel}
 use Rattle.tower_file.specs.Located.{HasFaultAt, ByteSpan}
 use Rattle.tower_file.specs.Tower.{HasTowerFault, IsTowerOf}
@@ -23,7 +23,8 @@ use Rattle.lint.specs.Short.{short_text}
 use Rattle.lint.specs.Tower.{HasNotesAlone, IsOneFault}
 use Rattle.words.specs.declared.lint.LintForm.{LintForm}
 use Rattle.words.specs.declared.lint.LintForm.TheVariants as asked_forms
-use Rattle.words.specs.Words.{AskedLint}
+use Rattle.words.specs.Words.{AskedLint, AskedTower, OfFile, OfTraces}
+use Rattle.command_parts.specs.Tower.{OfNames}
 use Rattle.lint_command.specs.Denied.{AreDenied}
 
 -- what is found in traces by the logs of a run over them, in one shard; nothing where there is no trace
@@ -55,10 +56,15 @@ pub record IsOfFault (name file : List ℕ) (names : List Text) (found : List Tr
   pub one : IsOneFault file fault (Some span) found
   pub names_are : names ≡ name ∷ []
 
--- what is found in the files of these names, by the tower file that is named, or else by the one register of `safe`
-abbrev pub AreFoundBy : Option Text → AskedLint → (Text → Option (List ℕ)) → List (List ℕ) → List Text → List TraceFindings → Type 0
-AreFoundBy None asked files traces names found = AreFindingsOfRun alone_tower asked.moments traces found × (names ≡ asked.traces)
-AreFoundBy (Some name) asked files traces names found =
+-- what is found in traces by the tower of the registers that they name, each of this kind
+abbrev pub AreOfNames : Kind → MomentField → List (List ℕ) → List TraceFindings → Type 0
+AreOfNames kind field traces found = OfNames kind traces (λ file. (tower : TowerModel) × IsTowerOf file tower × AreFindingsOfRun tower field traces found)
+
+-- what is found in the files of these names, by the tower file that is named, or else by the registers that the traces
+-- name
+abbrev pub AreFoundBy : AskedTower → AskedLint → (Text → Option (List ℕ)) → List (List ℕ) → List Text → List TraceFindings → Type 0
+AreFoundBy (OfTraces kind) asked files traces names found = AreOfNames kind asked.moments traces found × (names ≡ asked.traces)
+AreFoundBy (OfFile name) asked files traces names found =
     IfSome (files name) (λ file. AreOfTower asked name file traces names found ⊎ IsOfFault name file names found)
 
 -- the form that is asked for; that for people with as many findings of each code as are asked for

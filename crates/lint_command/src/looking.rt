@@ -2,9 +2,8 @@
 
 ghost use Rattle.std.specs.Prelude.{◌≡◌, ◌≢◌, ◌≤◌, ◌⊎◌, ◌+◌, ◌++◌, ◌∷◌, [], ℕ, List, IfOk, IfErr, IfSome, length, map, string_bytes};
 ghost use Rattle.clap.specs.Words.{Text};
-ghost use Rattle.tower_file.specs.Alone.{alone_tower};
 ghost use Rattle.words.specs.Words.{asked_lint};
-ghost use Rattle.lint_command.specs.Looked.{AreFindingsOfRun, AreOfTower, IsLooked, IsOfFault, IsPrintedAsAsked, format_by};
+ghost use Rattle.lint_command.specs.Looked.{AreFindingsOfRun, AreOfNames, AreOfTower, IsLooked, IsOfFault, IsPrintedAsAsked, format_by};
 ghost use Rattle.lint.specs.Tower.{HasNotesAlone, IsOneFault};
 ghost use Rattle.lint.specs.declared.finding.TraceFindings.{TraceFindings};
 ghost use Rattle.command_parts.specs.Files.{AreHeld};
@@ -12,14 +11,15 @@ ghost use Rattle.command_parts.specs.Files.{AreHeld};
 use crate::deny::denied_codes;
 use crate::linting::lint;
 use command_parts::{
-    CommandFault, Files, TRACE_LIMIT, read_file, read_files, the_tower, write_text,
+    CommandFault, Files, TRACE_LIMIT, read_file, read_files, tower_in, write_text,
 };
+use intervals::Kind;
 use lint::{Findings, Format, SourceText, lint_fault, lint_tower, push_findings};
 use std::alloc::{AllocError, Global};
 use std::io::Write;
 use std::sync::Wait;
 use tower_file::{LocatedFault, Tower, TowerFault};
-use words::{Lint, LintForm};
+use words::{Lint, LintForm, TowerWord};
 
 /// What is printed, and the status.
 #[derive(Drop)]
@@ -46,14 +46,14 @@ pub fn look<'a, A: AllocGlobal + Wait, F: Files, W: Write>(
     }
     let alloc = rt.alloc();
     let denied = denied_codes(alloc, asked.denied)?;
-    let file = read_named(alloc, files, asked.tower)?;
+    let file = read_named(alloc, files, asked.tower.file())?;
     let texts = read_files(alloc, files, &asked.traces)?;
     let Ok(slices) = slices_of(alloc, &texts) else {
         return Err(CommandFault::Memory);
     };
     let told = match asked.tower {
-        None => tell_alone(rt, asked, &slices, &denied)?,
-        Some(name) => {
+        TowerWord::Each(kind) => tell_named(rt, asked, kind, &slices, &denied)?,
+        TowerWord::File(name) => {
             let file = SourceText { name, text: &file };
             tell_by(rt, asked, &file, &slices, &denied)?
         }
@@ -80,24 +80,23 @@ fn read_named<'a, F: Files>(
     }
 }
 
-/// What is found in the traces by the tower of `safe`, with its one register.
-fn tell_alone<'a, A: AllocGlobal + Wait>(
+/// What is found in the traces by the tower of the registers that they name, each of this kind.
+fn tell_named<'a, A: AllocGlobal + Wait>(
     rt: &A,
     asked: &Lint<'a>,
+    kind: Kind,
     slices: &[&[u8]],
     denied: &[&str],
 ) -> Result<Printout, CommandFault<'a>>
     requires most { length slices.now ≤ 256 }
     requires names { length asked.now.traces.items ≡ length slices.now }
     ensures told { IfOk result (λ told. (found : List TraceFindings)
-        × AreFindingsOfRun alone_tower asked.now.moments (map (λ slice. slice.now) slices.entry.now) found
+        × AreOfNames kind asked.now.moments (map (λ slice. slice.now) slices.entry.now) found
         × IsPrintedAsAsked (asked_lint asked.now) denied.entry.now (asked_lint asked.now).traces found (string_bytes told.text) told.status) }
     ensures quiet { IfErr result (λ fault. fault ≢ CommandFault.Unwritable) }
 {
     let alloc = rt.alloc();
-    let Some(tower) = the_tower(alloc) else {
-        return Err(CommandFault::Memory);
-    };
+    let tower = tower_in(alloc, kind, slices)?;
     let found = findings(rt, asked, &tower, slices)?;
     let Ok(sources) = sources_of(alloc, &asked.traces, slices) else {
         return Err(CommandFault::Memory);

@@ -310,14 +310,22 @@ text_values : {depth : ℕ} (texts : List (List ℕ)) → AreValues depth (map t
 text_values [] = no_value
 text_values (bytes ∷ texts) = more_values (alone (text bytes) refl) (text_values texts)
 
-head_is : {depth : ℕ} (tower : List ℕ) (registers : ℕ) (traces : List (List ℕ)) (moments : List ℕ) → is_record_word moments ≡ true → IsRecord (suc (suc depth)) (head_record tower registers traces moments)
+head_is : {depth : ℕ} (tower : Option (List ℕ)) (registers : ℕ) (traces : List (List ℕ)) (moments : List ℕ) → is_record_word moments ≡ true → IsRecord (suc (suc depth)) (head_record tower registers traces moments)
 unfolding head_record format_symbols tower_symbols traces_symbols type_symbols text_field number_symbols word_symbols list_symbols
-head_is tower registers traces moments is =
+head_is None registers traces moments is =
     between
     (field_is (codes "t") refl (word (codes "head")) refl
     (field_is (codes "format") refl (number (decimal 1)) (whole_number 1)
     (field_is (codes "program") refl (text (codes "regaudit")) refl
-    (field_is (codes "tower") refl (text tower) refl
+    (field_is (codes "tower") refl nothing refl
+    (field_is (codes "registers") refl (number (decimal registers)) (whole_number registers)
+    (more_fields (codes "traces") refl (listed (text_values traces)) (field_is (codes "moment") refl (word moments) is no_field)))))))
+head_is (Some name) registers traces moments is =
+    between
+    (field_is (codes "t") refl (word (codes "head")) refl
+    (field_is (codes "format") refl (number (decimal 1)) (whole_number 1)
+    (field_is (codes "program") refl (text (codes "regaudit")) refl
+    (field_is (codes "tower") refl (text name) refl
     (field_is (codes "registers") refl (number (decimal registers)) (whole_number registers)
     (more_fields (codes "traces") refl (listed (text_values traces)) (field_is (codes "moment") refl (word moments) is no_field)))))))
 

@@ -371,7 +371,7 @@ order_of_no_register places n level name finding culprit allowed left_out rests_
 
 -- a word that says nothing of the first and the last record
 record SaysMiddle (f : List Symbol → List ℕ) : Type 0 where
-  first : (tower : List ℕ) (registers : ℕ) (traces : List (List ℕ)) (moments : List ℕ) → f (head_record tower registers traces moments) ≡ []
+  first : (tower : Option (List ℕ)) (registers : ℕ) (traces : List (List ℕ)) (moments : List ℕ) → f (head_record tower registers traces moments) ≡ []
   last : (status : ℕ) (totals : Totals) (least : Least) → f (end_of_records status totals least) ≡ []
 
 section_of_middle : SaysMiddle told_section

@@ -10,16 +10,22 @@ use Rattle.records.specs.Symbol.{Symbol, begin_list, end_list, end_record, key, 
 unfoldable pub format_symbols : List Symbol
 format_symbols = number_symbols (codes "format") 1 ++ text_field (codes "program") (codes "regaudit")
 
--- the tower file, and how many registers it has
-unfoldable pub tower_symbols : List ℕ → ℕ → List Symbol
-tower_symbols tower registers = text_field (codes "tower") tower ++ number_symbols (codes "registers") registers
+-- the name of the tower file; nothing where no tower file was named
+abbrev pub file_symbol : Option (List ℕ) → Symbol
+file_symbol None = nothing
+file_symbol (Some name) = text name
+
+-- the tower file, and how many registers the tower has
+unfoldable pub tower_symbols : Option (List ℕ) → ℕ → List Symbol
+tower_symbols tower registers = (key (codes "tower") ∷ file_symbol tower ∷ []) ++ number_symbols (codes "registers") registers
 
 -- the names of the traces
 unfoldable pub traces_symbols : List (List ℕ) → List Symbol
 traces_symbols traces = list_symbols (codes "traces") ++ map text traces ++ end_list ∷ []
 
--- the first record: the format, the tower file with how many registers it has, the traces, and the field of moments
-unfoldable pub head_record : List ℕ → ℕ → List (List ℕ) → List ℕ → List Symbol
+-- the first record: the format, the optional tower file with how many registers the tower has, the traces, and the field
+-- of moments
+unfoldable pub head_record : Option (List ℕ) → ℕ → List (List ℕ) → List ℕ → List Symbol
 head_record tower registers traces moments =
     type_symbols (codes "head") ++ format_symbols ++ tower_symbols tower registers ++ traces_symbols traces
     ++ word_symbols (codes "moment") moments ++ end_record ∷ []

@@ -1,5 +1,5 @@
 -- The records of a run.
-use Rattle.std.specs.Prelude.{◌≡◌, ℕ, Bool, not, ◌||◌, ◌+◌, ◌-◌, ◌^◌, min, List, [], ◌∷◌, ◌++◌, IsTrue, Option, Some, None, count_by, flat_map, is_some, length, map, if◌then◌else◌}
+use Rattle.std.specs.Prelude.{◌≡◌, ℕ, Bool, not, ◌||◌, ◌+◌, ◌-◌, ◌^◌, min, List, [], ◌∷◌, ◌++◌, IsTrue, Option, Some, None, count_by, flat_map, is_some, length, map, option_map, if◌then◌else◌}
 use Rattle.std.specs.List.{list_any, slice_get}
 use Rattle.std.specs.Option.{option_map_or}
 use Rattle.intervals.specs.declared.operation.OpId.{OpId}
@@ -119,17 +119,17 @@ abbrev pub middle_records : PlacesModel → TowerModel → Bool → List Finding
 middle_records places tower only findings doubts allowed logs asked =
     registers_records places tower (fails_of findings) doubts only 0 findings allowed ++ logs_records places tower.registers 0 logs ++ asked_records tower.registers asked
 
--- what the first record of a run names, the tower file, the traces, and the field that has the moments; and the last:
+-- what the first record of a run names, the optional tower file, the traces, and the field that has the moments; and the last:
 -- how many operations have to stand, at least
 pub record RunNames : Type 0 where
-  pub tower : List ℕ
+  pub tower : Option (List ℕ)
   pub traces : List (List ℕ)
   pub moments : List ℕ
   pub least : Least
 
 -- what the first and the last record name, by the form in which records are written
 abbrev pub names_of : Form → RunNames
-names_of form = record { tower = form.tower.now; traces = map (λ name. name.now) form.traces.now; moments = form.moments.now; least = form.least }
+names_of form = record { tower = option_map (λ name. name.now) form.tower; traces = map (λ name. name.now) form.traces.now; moments = form.moments.now; least = form.least }
 
 -- all records of a run
 abbrev pub records_of : PlacesModel → RunNames → Bool → ℕ → TowerModel → List Finding → List Doubt → List (List Allowed) → List Log → Option (RegId × Option (List OpId)) → List (List Symbol)

@@ -1,8 +1,8 @@
 //! The first and the last record of a run, and the record of an order.
 
 ghost use Rattle.std.specs.Prelude.{◌≡◌, ◌++◌, ◌∷◌, [], OnOk, map, option_map};
-ghost use Rattle.records.specs.Ends.{end_of_records, format_symbols, head_record, ids_symbols, least_symbols, order_symbols, tower_symbols, trace_totals, traces_symbols, verdict_totals};
-ghost use Rattle.records.specs.Symbol.{end_list, place, symbols_of, text};
+ghost use Rattle.records.specs.Ends.{end_of_records, file_symbol, format_symbols, head_record, ids_symbols, least_symbols, order_symbols, tower_symbols, trace_totals, traces_symbols, verdict_totals};
+ghost use Rattle.records.specs.Symbol.{end_list, place, symbol_of, symbols_of, text};
 
 use crate::field::{add_list, add_number, add_text, add_type, add_word};
 use crate::token::RecordToken;
@@ -26,12 +26,12 @@ pub struct Totals {
 #[tactic(auto, unfolding(crate::specs::Ends::head_record))]
 pub fn add_head<'a>(
     tokens: &mut Vec<RecordToken<'a>>,
-    tower: &'a [u8],
+    tower: Option<&'a [u8]>,
     registers: u64,
     traces: &[&'a str],
     moments: &'static str,
 ) -> Result<(), AllocError>
-    ensures { OnOk result (symbols_of tokens.new.items ≡ symbols_of tokens.old.items ++ head_record tower.now registers (map (λ name. name.now) traces.now) moments.now) }
+    ensures { OnOk result (symbols_of tokens.new.items ≡ symbols_of tokens.old.items ++ head_record (option_map (λ name. name.now) tower.entry) registers (map (λ name. name.now) traces.now) moments.now) }
 {
     add_type(tokens, "head")?;
     add_format(tokens)?;
@@ -45,13 +45,22 @@ pub fn add_head<'a>(
 #[tactic(auto, unfolding(crate::specs::Ends::tower_symbols))]
 fn add_tower<'a>(
     tokens: &mut Vec<RecordToken<'a>>,
-    tower: &'a [u8],
+    tower: Option<&'a [u8]>,
     registers: u64,
 ) -> Result<(), AllocError>
-    ensures { OnOk result (symbols_of tokens.new.items ≡ symbols_of tokens.old.items ++ tower_symbols tower.now registers) }
+    ensures { OnOk result (symbols_of tokens.new.items ≡ symbols_of tokens.old.items ++ tower_symbols (option_map (λ name. name.now) tower.entry) registers) }
 {
-    add_text(tokens, "tower", tower)?;
+    tokens.extend_from_slice(&[RecordToken::Key("tower"), file_token(tower)])?;
     add_number(tokens, "registers", registers)
+}
+
+fn file_token<'a>(name: Option<&'a [u8]>) -> RecordToken<'a>
+    ensures { symbol_of result ≡ file_symbol (option_map (λ name. name.now) name.entry) }
+{
+    match name {
+        Some(name) => RecordToken::Text(name),
+        None => RecordToken::Nothing,
+    }
 }
 
 #[tactic(auto, unfolding(crate::specs::Ends::traces_symbols))]

@@ -41,8 +41,8 @@ pub struct Form<'a> {
     pub notation: Notation,
     /// Whether only the registers that fail have a record.
     pub only_failing: bool,
-    /// The tower file, by its name.
-    pub tower: &'a str,
+    /// The tower file, by its name, where one is named.
+    pub tower: Option<&'a str>,
     /// The traces, by their names.
     pub traces: &'a [&'a str],
     /// The word of the field that has the moments.
@@ -237,12 +237,12 @@ impl RecordWriter<'_, '_> {
     }
 
     fn push_head(self, text: &mut Vec<u8>, form: &Form, tower: &Tower) -> Result<(), AllocError>
-        ensures { OnOk result (text.new.items ≡ text.old.items ++ record_line self.entry.notation (head_record form.now.tower.now (length tower.now.registers) (map (λ name. name.now) form.now.traces.now) form.now.moments.now)) }
+        ensures { OnOk result (text.new.items ≡ text.old.items ++ record_line self.entry.notation (head_record (option_map (λ name. name.now) form.now.tower) (length tower.now.registers) (map (λ name. name.now) form.now.traces.now) form.now.moments.now)) }
     {
         let mut tokens = Vec::new(self.alloc);
         add_head(
             &mut tokens,
-            form.tower.as_bytes(),
+            name_bytes(form.tower),
             tower.len() as u64,
             form.traces,
             form.moments,
@@ -452,5 +452,15 @@ impl RecordWriter<'_, '_> {
         let mut tokens = Vec::new(self.alloc);
         add_last(&mut tokens, u64::from(form.status), totals, form.least)?;
         self.push(text, &tokens)
+    }
+}
+
+/// The bytes of an optional name.
+fn name_bytes<'a>(name: Option<&'a str>) -> Option<&'a [u8]>
+    ensures { option_map (λ bytes. bytes.now) result ≡ option_map (λ name. name.now) name.entry }
+{
+    match name {
+        Some(name) => Some(name.as_bytes()),
+        None => None,
     }
 }

@@ -28,6 +28,15 @@ where
 {
     type Reader = Opened<'t, R::File>;
 
+    fn is_read_once(&mut self, name: &str) -> bool {
+        for file in &self.row.files {
+            if file.name.as_slice() == name.as_bytes() {
+                return false;
+            }
+        }
+        self.host.is_read_once(name)
+    }
+
     fn open(&mut self, name: &str) -> Result<Opened<'t, R::File>, Missing> {
         for file in &self.row.files {
             if file.name.as_slice() == name.as_bytes() {

@@ -15,17 +15,15 @@ use Rattle.command_parts.specs.Status.{IsStatus}
 use Rattle.show_command.specs.Shown.{IsShown}
 
 -- what `show` has written; `AreTheir known` says that the files hold these texts
-pub shown : (held : Option (List ℕ)) (asked : AskedShow) (tower : TowerModel) (register : Option RegId) (closed : List ClosedShard) (logs : List Log) (lefts : List (Option (List ℕ))) (AreTheir : List (List ℕ) → Type 0) (text : List ℕ) (status : ℕ) (old new : Option (List ℕ))
-    → IfSome held (λ file. IsTowerOf file tower)
+pub shown : (asked : AskedShow) (tower : TowerModel) (register : Option RegId) (closed : List ClosedShard) (logs : List Log) (lefts : List (Option (List ℕ))) (AreTheir : List (List ℕ) → Type 0) (text : List ℕ) (status : ℕ) (old new : Option (List ℕ))
     → IsNamed tower asked.register register
     → ((known : List (List ℕ)) → AreTheir known → lefts ≡ map (λ text. Some text) known)
     → ((read : List (List ℕ)) × AreReadOf lefts logs read × IsRun tower asked.moments 1 read closed logs)
     → Appends old new text
     → IsStatus tower closed logs asked.demand status
-    → IfSome held (λ file. (traces : List (List ℕ)) → AreTheir traces → IsShown asked file traces status old new)
-shown None asked tower register closed logs lefts AreTheir text status old new says named opened run written is = search rules
-shown (Some file) asked tower register closed logs lefts AreTheir text status old new says named opened run written is =
-    λ traces are. record {
+    → (file : List ℕ) → IsTowerOf file tower → (traces : List (List ℕ)) → AreTheir traces → IsShown asked file traces status old new
+shown asked tower register closed logs lefts AreTheir text status old new named opened run written is =
+    λ file says traces are. record {
       tower = tower;
       says = says;
       register = register;

@@ -1,17 +1,18 @@
 //! The words of a call of `show`.
 
+use intervals::Kind;
 use jepsen_form::MomentField;
 use phrases::push_printed;
 use std::alloc::AllocError;
 use texts::VERSION;
-use words::{Picture, Show, ThemeWord};
+use words::{Picture, Show, ThemeWord, TowerWord};
 
 /// Adds the program with its version, and the words that ask for the same.
 pub fn push_call(text: &mut String, asked: &Show) -> Result<(), AllocError> {
     text.push_str(first_line(VERSION))?;
     text.push_str(": show")?;
     text.push_str(word_of(asked.picture))?;
-    push_option(text, "tower", asked.tower)?;
+    push_tower(text, asked.tower)?;
     if let MomentField::Time = asked.moments {
         push_option(text, "moment", "time")?;
     }
@@ -27,6 +28,16 @@ pub fn push_call(text: &mut String, asked: &Show) -> Result<(), AllocError> {
         push_printed(text, name.as_bytes())?;
     }
     Ok(())
+}
+
+/// Adds the tower that is asked for; that of atomic registers is asked for by no word.
+fn push_tower(text: &mut String, tower: TowerWord) -> Result<(), AllocError> {
+    match tower {
+        TowerWord::File(name) => push_option(text, "tower", name),
+        TowerWord::Each(Kind::Atomic) => Ok(()),
+        TowerWord::Each(Kind::Regular) => push_option(text, "each", "regular"),
+        TowerWord::Each(Kind::Safe) => push_option(text, "each", "safe"),
+    }
 }
 
 fn first_line(text: &str) -> &str {

@@ -1,8 +1,9 @@
 //! The command `show`.
 
 ghost use Rattle.std.specs.Prelude.{◌≡◌, ◌≢◌, ◌<◌, ℕ, List, IfOk, IfErr, IfSome, length, map};
-ghost use Rattle.words.specs.Words.{asked_show};
+ghost use Rattle.words.specs.Words.{asked_show, asked_tower};
 ghost use Rattle.command_parts.specs.Files.{AreHeld};
+ghost use Rattle.command_parts.specs.Tower.{OfTower};
 ghost use Rattle.show_command.specs.Shown.{IsShown};
 
 use crate::picture::picture;
@@ -25,7 +26,7 @@ pub fn draw<'a, A: AllocGlobal + Threads + Wait + Sync, F: Files, W: Write>(
     out: &mut W,
 ) -> Result<u8, CommandFault<'a>>
     requires traces { 0 < length asked.now.traces.items }
-    ensures shown { IfOk result (λ status. IfSome (F.held files.old asked.entry.now.tower.now) (λ file. (traces : List (List ℕ))
+    ensures shown { IfOk result (λ status. OfTower (asked_tower asked.entry.now.tower) (F.held files.old) (map (λ name. name.now) asked.entry.now.traces.items) (λ file. (traces : List (List ℕ))
         → AreHeld (F.held files.old) (map (λ name. name.now) asked.entry.now.traces.items) traces
         → IsShown (asked_show asked.entry.now) file traces status (W.contents out.old) (W.contents out.new))) }
     ensures quiet { IfErr result (λ fault. fault ≢ CommandFault.Unwritable → out.new ≡ out.old) }

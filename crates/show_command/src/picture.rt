@@ -189,10 +189,14 @@ fn amiss_text(view: ShownRun) -> Result<String, AllocError> {
     Ok(lines)
 }
 
-/// What the pictures of a page are of: the tower file, the traces, and what of them was not judged.
+/// What the pictures of a page are of: the tower file, or that the traces name the registers, the traces, and what of them
+/// was not judged.
 fn push_origin(text: &mut String, view: ShownRun) -> Result<(), AllocError> {
     let mut lines = String::new(view.alloc);
-    push_printed(&mut lines, view.asked.tower.as_bytes())?;
+    match view.asked.tower.file() {
+        Some(name) => push_printed(&mut lines, name.as_bytes())?,
+        None => lines.push_str("named in the traces")?,
+    }
     push_many(&mut lines, ": ", view.tower.len(), "register")?;
     lines.push_str("\n")?;
     view.sources.push_traces(&mut lines, &view.run.logs)?;

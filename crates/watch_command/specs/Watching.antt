@@ -20,6 +20,7 @@ use Rattle.words.specs.declared.demand.Demand.{Demand}
 use Rattle.command_parts.specs.declared.fault.CommandFault.{CommandFault}
 use Rattle.command_parts.specs.declared.fault.CommandFault.TheVariants.{Memory, Unwritable, Shard, Untold}
 use Rattle.command_parts.specs.Status.{IsStatus}
+use Rattle.command_parts.specs.Tower.{OfTower}
 
 -- how notices are written
 abbrev pub notice_form : LineForm → NoticeForm
@@ -53,13 +54,13 @@ pub record IsFollowed (asked : AskedWatch) (file : List ℕ) (traces : List (Lis
   pub watched : IsWatched tower (watch_terms asked) (map (λ trace. Some trace) traces) closed logs stopped old new
   pub status_is : IsWatchStatus tower closed logs asked.demand stopped status
 
--- whole notices, of registers of the tower that the file says, were written, and nothing else
-pub record HasNoticesAlone (asked : AskedWatch) (file old new : Option (List ℕ)) : Type 0 where
+-- whole notices, of registers of the tower that is asked for, were written, and nothing else
+pub record HasNoticesAlone (asked : AskedWatch) (files : List ℕ → Option (List ℕ)) (old new : Option (List ℕ)) : Type 0 where
   pub tower : TowerModel
-  pub says : IfSome file (λ file. IsTowerOf file tower)
+  pub says : OfTower asked.tower files asked.traces (λ file. IsTowerOf file tower)
   pub notices : List Notice
   pub written : Appends old new (text_of_notices (notice_form asked.form) tower.registers notices)
 
 -- a watch that broke off wrote nothing, or whole notices alone
-abbrev pub HasWholeNotices : AskedWatch → Option (List ℕ) → Option (List ℕ) → Option (List ℕ) → Type 0
-HasWholeNotices asked file old new = (new ≡ old) ⊎ HasNoticesAlone asked file old new
+abbrev pub HasWholeNotices : AskedWatch → (List ℕ → Option (List ℕ)) → Option (List ℕ) → Option (List ℕ) → Type 0
+HasWholeNotices asked files old new = (new ≡ old) ⊎ HasNoticesAlone asked files old new

@@ -1,8 +1,9 @@
 //! The command `watch`.
 
 ghost use Rattle.std.specs.Prelude.{◌≡◌, ◌≢◌, ◌≤◌, ◌<◌, ℕ, List, IfOk, IfErr, IfSome, length, map};
-ghost use Rattle.words.specs.Words.{asked_watch};
+ghost use Rattle.words.specs.Words.{asked_tower, asked_watch};
 ghost use Rattle.command_parts.specs.Files.{AreHeld};
+ghost use Rattle.command_parts.specs.Tower.{OfTower};
 ghost use Rattle.report.specs.Finding.{IsOfTower};
 ghost use Rattle.watch_command.specs.Watching.{HasWholeNotices, IsFollowed, IsWatchStatus, notice_form, unfollowed, watch_terms};
 
@@ -18,7 +19,8 @@ use watch::{NoticeForm, Terms, WatchFault, Watched, watch_readers};
 use words::{Demand, LineForm, Watch};
 
 /// Watches the registers of a tower while traces are read. The faults come in this order: too many traces, the tower
-/// file, a trace that cannot be opened, the run and the writing. All traces are opened before any is read.
+/// file, or a trace that cannot be read for what it names, a trace that cannot be opened, the run and the writing. All
+/// traces are opened before any is fed.
 pub fn follow<'a, A: AllocGlobal + Threads + Wait + Sync, F: Files, W: Write + Send>(
     rt: &A,
     asked: &Watch<'a>,
@@ -27,10 +29,10 @@ pub fn follow<'a, A: AllocGlobal + Threads + Wait + Sync, F: Files, W: Write + S
 ) -> Result<u8, CommandFault<'a>>
     requires shards { (1 ≤ asked.now.shards) × (asked.now.shards ≤ 64) }
     requires traces { 0 < length asked.now.traces.items }
-    ensures followed { IfOk result (λ status. IfSome (F.held files.old asked.entry.now.tower.now) (λ file. (traces : List (List ℕ))
+    ensures followed { IfOk result (λ status. OfTower (asked_tower asked.entry.now.tower) (F.held files.old) (map (λ name. name.now) asked.entry.now.traces.items) (λ file. (traces : List (List ℕ))
         → AreHeld (F.held files.old) (map (λ name. name.now) asked.entry.now.traces.items) traces
         → IsFollowed (asked_watch asked.entry.now) file traces status (W.contents out.old) (W.contents out.new))) }
-    ensures whole { IfErr result (λ fault. fault ≢ CommandFault.Unwritable → HasWholeNotices (asked_watch asked.entry.now) (F.held files.old asked.entry.now.tower.now) (W.contents out.old) (W.contents out.new)) }
+    ensures whole { IfErr result (λ fault. fault ≢ CommandFault.Unwritable → HasWholeNotices (asked_watch asked.entry.now) (F.held files.old) (W.contents out.old) (W.contents out.new)) }
 {
     let alloc = rt.alloc();
     let OpenedRun {

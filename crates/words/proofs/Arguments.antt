@@ -1,15 +1,22 @@
 -- What `clap`'s getters give of an argument, by the rows of its matches, and what a text says of shards.
-use Rattle.std.proofs.Common.{◌≡◌, ◌≤◌, ◌<◌, ◌-◌, ◌&&◌, ◌^◌, ℕ, Bool, true, false, List, [], ◌∷◌, length, Option, Some, None, Err, ◌∙◌, refl, sym, ap, arith, nat_lt, lt-ltb, ltb-true}
-use Rattle.std.specs.Prelude.{nat_le, option_map}
+use Rattle.std.proofs.Common.{◌≡◌, ◌≤◌, ◌<◌, ◌-◌, ◌&&◌, ◌^◌, ℕ, ℤ, pos, negsuc, Bool, true, false, List, [], ◌∷◌, length, Option, Some, None, Err, ◌∙◌, refl, sym, ap, arith, nat_lt, lt-ltb, ltb-true}
+use Rattle.std.specs.Prelude.{FitsSigned, codes, nat_le, option_map}
+use Rattle.std.specs.Int.{w64}
+use Rattle.std.specs.Str.{bytes_eq}
+use mir.Facts.{to_z-of_z}
+use mir.Val.{of_z, to_z}
 use Rattle.std.specs.List.{list_all}
 use Rattle.std.specs.Char.{digit_value}
-use Rattle.std.specs.Str.Parse.{AllDigits, IsNumeral, ParsesUnsigned, digits_value, without_leading_plus}
+use Rattle.std.specs.Str.Parse.{AllDigits, IsNumeral, ParsesSigned, ParsesUnsigned, digits_value, signed_digits_value, without_leading_plus, without_leading_sign}
 use Rattle.std.proofs.lemmas.Bool.Decides.{nat_tests}
 use Rattle.clap.specs.Words.{Text, all_of, first_of, first_value, found_of, matched_of, raw_values, rows_of}
-use Rattle.clap.specs.ValueTests.{is_numeral, is_unsigned_in}
+use Rattle.clap.specs.ValueTests.{fits_i64, is_numeral, is_unsigned_in}
 use Rattle.clap.specs.declared.ArgMatches.{ArgMatches}
 use Rattle.clap.proofs.WalkLemmas.{both, first_value-rows, raw_values-rows}
-use Rattle.words.specs.Words.{count_in, shards_in, status_in}
+use Rattle.intervals.specs.declared.claim.Initial.TheVariants.{Known}
+use Rattle.intervals.specs.declared.claim.Kind.{Kind}
+use Rattle.intervals.specs.declared.operation.Value.TheVariants.{Int}
+use Rattle.words.specs.Words.{count_in, initial_named, is_integer, shards_in, status_in}
 
 -- the value that a getter gives is that among the rows
 pub value_in : (found : ArgMatches) (id : Text) (value : Option Text) → value ≡ first_value (found_of found) id → first_of id (rows_of (found_of found)) ≡ value
@@ -102,3 +109,30 @@ no_status text error fails = go (is_unsigned_in 0 255 text) refl
         let parts = both _ _ is in
         let small = from_8_bits (digits_value 10 (without_leading_plus text)) parts.1 in
         absurd (fails (numeral_from (without_leading_plus text) parts.0, omega arith))
+
+fits_64_bits : (z : ℤ) → FitsSigned w64 z → fits_i64 z ≡ true
+fits_64_bits (pos n) fits = lt-ltb _ _ fits.sfits
+fits_64_bits (negsuc n) fits = lt-ltb _ _ fits.sfits
+
+from_fits : (z : ℤ) → fits_i64 z ≡ true → FitsSigned w64 z
+from_fits (pos n) passes = record { sfits = ltb-true _ _ passes }
+from_fits (negsuc n) passes = record { sfits = ltb-true _ _ passes }
+
+-- an initial value that is an integer
+pub some_integer : (kind : Kind) (text : Text) (n : ℤ) → bytes_eq text (codes "nil") ≡ false → bytes_eq text (codes "unknown") ≡ false → IsNumeral 10 (without_leading_sign text)
+    → FitsSigned w64 (signed_digits_value 10 text) → n ≡ signed_digits_value 10 text → Some (Known (Int (to_z w64 (of_z w64 n)))) ≡ initial_named kind text
+some_integer kind text n no_nil no_unknown numeral fits is =
+    let whole : is_integer text ≡ true = rw (numeral_passes (without_leading_sign text) numeral, fits_64_bits (signed_digits_value 10 text) fits) refl in
+    let same : to_z w64 (of_z w64 n) ≡ signed_digits_value 10 text = rw is (to_z-of_z fits) in
+    rw (no_nil, no_unknown, whole, same) refl
+
+-- an initial value that is none of the words and no integer
+pub no_integer : {E : Type 0} (kind : Kind) (text : Text) (error : E) → bytes_eq text (codes "nil") ≡ false → bytes_eq text (codes "unknown") ≡ false → ParsesSigned w64 10 text (Err error)
+    → None ≡ initial_named kind text
+no_integer kind text error no_nil no_unknown fails = go (is_integer text) refl
+  where
+    go : (passes : Bool) → is_integer text ≡ passes → None ≡ initial_named kind text
+    go false is = rw (no_nil, no_unknown, is) refl
+    go true is =
+        let parts = both _ _ is in
+        absurd (fails (numeral_from (without_leading_sign text) parts.0, from_fits (signed_digits_value 10 text) parts.1))

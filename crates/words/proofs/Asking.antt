@@ -1,16 +1,20 @@
 -- What words ask for, of words that are written out and of names that are no options.
-use Rattle.std.proofs.Common.{◌≡◌, ◌==◌, ◌||◌, ℕ, Bool, true, false, not, [], ◌∷◌, ◌++◌, length, Some, None, refl, sym, subst, arith, codes}
+use Rattle.std.proofs.Common.{◌≡◌, ◌==◌, ◌||◌, ℕ, Bool, true, false, not, [], ◌∷◌, ◌++◌, length, negsuc, Some, None, refl, sym, subst, arith, codes}
 use Rattle.std.proofs.lemmas.Bool.{eqb-true}
 use Rattle.clap.proofs.OnLiterals.{clap_on_literals}
 use Rattle.clap.specs.Words.{Text, takes}
 use Rattle.jepsen_form.specs.declared.item.MomentField.TheVariants.{Index, Time}
+use Rattle.intervals.specs.declared.claim.Initial.TheVariants.{Known, Unknown}
+use Rattle.intervals.specs.declared.claim.Kind.TheVariants.{Regular, Atomic}
+use Rattle.intervals.specs.declared.claim.Kind.TheVariants as kinds
+use Rattle.intervals.specs.declared.operation.Value.TheVariants.{Nil, Int}
 use Rattle.words.specs.declared.check.ReportForm.TheVariants.{Report, Summary, Json, Edn}
 use Rattle.words.specs.declared.completion.Shell.TheVariants.{Bash, Zsh, Fish}
 use Rattle.words.specs.declared.lint.LintForm.TheVariants as lint_forms
 use Rattle.words.specs.declared.show.Picture.TheVariants as pictures
 use Rattle.words.specs.declared.show.ThemeWord.TheVariants.{Auto, Dark}
 use Rattle.words.specs.declared.watch.LineForm.TheVariants as line_forms
-use Rattle.words.specs.Words.{Check, Completion, Explain, Lint, Manual, Safe, Show, Tower, Version, Watch, asked, command_line, is_no_option, no_demand}
+use Rattle.words.specs.Words.{Check, Completion, Explain, Keys, Lint, Manual, OfFile, OfTraces, Safe, Show, Tower, Version, Watch, asked, command_line, is_no_option, no_demand}
 
 pub input : (program : Text) → asked (program ∷ codes "safe" ∷ []) ≡ Some (Safe None)
 unfolding clap_on_literals
@@ -90,47 +94,47 @@ unfolding clap_on_literals
 taken = (refl, refl, refl, refl, refl)
 
 pub plain_check : (program : Text) → asked (program ∷ codes "check" ∷ codes "--tower" ∷ codes "t" ∷ codes "a" ∷ [])
-    ≡ Some (Check (record { tower = codes "t"; shards = 1; moments = Index; order = None; form = Report; only_failing = false; demand = no_demand; traces = codes "a" ∷ [] }))
+    ≡ Some (Check (record { tower = OfFile (codes "t"); shards = 1; moments = Index; order = None; form = Report; only_failing = false; demand = no_demand; traces = codes "a" ∷ [] }))
 unfolding clap_on_literals
 plain_check program = refl
 
 pub whole_check : (program : Text) → asked (program ∷ codes "check" ∷ codes "--tower" ∷ codes "t" ∷ codes "--shards" ∷ codes "64" ∷ codes "--moment" ∷ codes "time" ∷ codes "--order" ∷ codes "x" ∷ codes "--as" ∷ codes "summary" ∷ codes "--least" ∷ codes "7" ∷ codes "--least-each" ∷ codes "1" ∷ codes "--doubt" ∷ codes "3" ∷ codes "a" ∷ [])
-    ≡ Some (Check (record { tower = codes "t"; shards = 64; moments = Time; order = Some (codes "x"); form = Summary; only_failing = false; demand = record { least = 7; least_each = 1; doubt = 3 }; traces = codes "a" ∷ [] }))
+    ≡ Some (Check (record { tower = OfFile (codes "t"); shards = 64; moments = Time; order = Some (codes "x"); form = Summary; only_failing = false; demand = record { least = 7; least_each = 1; doubt = 3 }; traces = codes "a" ∷ [] }))
 unfolding clap_on_literals
 whole_check program = refl
 
 pub two_traces : (program : Text) → asked (program ∷ codes "check" ∷ codes "--tower" ∷ codes "t" ∷ codes "a" ∷ codes "b" ∷ [])
-    ≡ Some (Check (record { tower = codes "t"; shards = 1; moments = Index; order = None; form = Report; only_failing = false; demand = no_demand; traces = codes "a" ∷ codes "b" ∷ [] }))
+    ≡ Some (Check (record { tower = OfFile (codes "t"); shards = 1; moments = Index; order = None; form = Report; only_failing = false; demand = no_demand; traces = codes "a" ∷ codes "b" ∷ [] }))
 unfolding clap_on_literals
 two_traces program = refl
 
 pub between_traces : (program : Text) → asked (program ∷ codes "check" ∷ codes "a" ∷ codes "--shards=+2" ∷ codes "b" ∷ codes "--tower=t" ∷ codes "--moment=index" ∷ codes "a" ∷ [])
-    ≡ Some (Check (record { tower = codes "t"; shards = 2; moments = Index; order = None; form = Report; only_failing = false; demand = no_demand; traces = codes "a" ∷ codes "b" ∷ codes "a" ∷ [] }))
+    ≡ Some (Check (record { tower = OfFile (codes "t"); shards = 2; moments = Index; order = None; form = Report; only_failing = false; demand = no_demand; traces = codes "a" ∷ codes "b" ∷ codes "a" ∷ [] }))
 unfolding clap_on_literals
 between_traces program = refl
 
 pub json_check : (program : Text) → asked (program ∷ codes "check" ∷ codes "--tower=t" ∷ codes "--as=json" ∷ codes "a" ∷ [])
-    ≡ Some (Check (record { tower = codes "t"; shards = 1; moments = Index; order = None; form = Json; only_failing = false; demand = no_demand; traces = codes "a" ∷ [] }))
+    ≡ Some (Check (record { tower = OfFile (codes "t"); shards = 1; moments = Index; order = None; form = Json; only_failing = false; demand = no_demand; traces = codes "a" ∷ [] }))
 unfolding clap_on_literals
 json_check program = refl
 
 pub edn_check : (program : Text) → asked (program ∷ codes "check" ∷ codes "--tower=t" ∷ codes "--as" ∷ codes "edn" ∷ codes "a" ∷ [])
-    ≡ Some (Check (record { tower = codes "t"; shards = 1; moments = Index; order = None; form = Edn; only_failing = false; demand = no_demand; traces = codes "a" ∷ [] }))
+    ≡ Some (Check (record { tower = OfFile (codes "t"); shards = 1; moments = Index; order = None; form = Edn; only_failing = false; demand = no_demand; traces = codes "a" ∷ [] }))
 unfolding clap_on_literals
 edn_check program = refl
 
 pub failing_check : (program : Text) → asked (program ∷ codes "check" ∷ codes "--tower=t" ∷ codes "--as=json" ∷ codes "--only" ∷ codes "failing" ∷ codes "a" ∷ [])
-    ≡ Some (Check (record { tower = codes "t"; shards = 1; moments = Index; order = None; form = Json; only_failing = true; demand = no_demand; traces = codes "a" ∷ [] }))
+    ≡ Some (Check (record { tower = OfFile (codes "t"); shards = 1; moments = Index; order = None; form = Json; only_failing = true; demand = no_demand; traces = codes "a" ∷ [] }))
 unfolding clap_on_literals
 failing_check program = refl
 
 pub whole_records : (program : Text) → asked (program ∷ codes "check" ∷ codes "--tower" ∷ codes "t" ∷ codes "--shards" ∷ codes "64" ∷ codes "--moment" ∷ codes "time" ∷ codes "--order" ∷ codes "x" ∷ codes "--as" ∷ codes "edn" ∷ codes "--only" ∷ codes "failing" ∷ codes "--least" ∷ codes "7" ∷ codes "--least-each" ∷ codes "1" ∷ codes "--doubt" ∷ codes "3" ∷ codes "a" ∷ [])
-    ≡ Some (Check (record { tower = codes "t"; shards = 64; moments = Time; order = Some (codes "x"); form = Edn; only_failing = true; demand = record { least = 7; least_each = 1; doubt = 3 }; traces = codes "a" ∷ [] }))
+    ≡ Some (Check (record { tower = OfFile (codes "t"); shards = 64; moments = Time; order = Some (codes "x"); form = Edn; only_failing = true; demand = record { least = 7; least_each = 1; doubt = 3 }; traces = codes "a" ∷ [] }))
 unfolding clap_on_literals
 whole_records program = refl
 
 pub any_names : (program tower order trace : Text) → asked (program ∷ codes "check" ∷ (codes "--tower=" ++ tower) ∷ (codes "--order=" ++ order) ∷ codes "--" ∷ trace ∷ [])
-    ≡ Some (Check (record { tower = tower; shards = 1; moments = Index; order = Some order; form = Report; only_failing = false; demand = no_demand; traces = trace ∷ [] }))
+    ≡ Some (Check (record { tower = OfFile tower; shards = 1; moments = Index; order = Some order; form = Report; only_failing = false; demand = no_demand; traces = trace ∷ [] }))
 unfolding clap_on_literals
 any_names program tower order trace = refl
 
@@ -138,9 +142,19 @@ pub no_check : (program : Text) → asked (program ∷ codes "check" ∷ []) ≡
 unfolding clap_on_literals
 no_check program = refl
 
-pub no_tower : (program : Text) → asked (program ∷ codes "check" ∷ codes "a" ∷ []) ≡ None
+pub two_towers : (program : Text) → (asked (program ∷ codes "check" ∷ codes "--tower=t" ∷ codes "--each=atomic" ∷ codes "a" ∷ []) ≡ None)
+    × (asked (program ∷ codes "lint" ∷ codes "--tower=t" ∷ codes "--each=atomic" ∷ codes "a" ∷ []) ≡ None)
 unfolding clap_on_literals
-no_tower program = refl
+two_towers program = (refl, refl)
+
+pub no_kind : (program : Text) → asked (program ∷ codes "check" ∷ codes "--each=linear" ∷ codes "a" ∷ []) ≡ None
+unfolding clap_on_literals
+no_kind program = refl
+
+pub each_check : (program : Text) → (asked (program ∷ codes "check" ∷ codes "a" ∷ []) ≡ Some (Check (record { tower = OfTraces Atomic; shards = 1; moments = Index; order = None; form = Report; only_failing = false; demand = no_demand; traces = codes "a" ∷ [] })))
+    × (asked (program ∷ codes "check" ∷ codes "--each" ∷ codes "regular" ∷ codes "a" ∷ []) ≡ Some (Check (record { tower = OfTraces Regular; shards = 1; moments = Index; order = None; form = Report; only_failing = false; demand = no_demand; traces = codes "a" ∷ [] })))
+unfolding clap_on_literals
+each_check program = (refl, refl)
 
 pub no_trace : (program : Text) → asked (program ∷ codes "check" ∷ codes "--tower" ∷ codes "t" ∷ []) ≡ None
 unfolding clap_on_literals
@@ -169,23 +183,24 @@ unfolding clap_on_literals
 no_shell program = refl
 
 pub plain_watch : (program : Text) → asked (program ∷ codes "watch" ∷ codes "--tower" ∷ codes "t" ∷ codes "a" ∷ [])
-    ≡ Some (Watch (record { tower = codes "t"; shards = 1; moments = Index; form = line_forms.Text; until_fail = false; settle = 0; demand = no_demand; traces = codes "a" ∷ [] }))
+    ≡ Some (Watch (record { tower = OfFile (codes "t"); shards = 1; moments = Index; form = line_forms.Text; until_fail = false; settle = 0; demand = no_demand; traces = codes "a" ∷ [] }))
 unfolding clap_on_literals
 plain_watch program = refl
 
 pub whole_watch : (program : Text) → asked (program ∷ codes "watch" ∷ codes "--tower=t" ∷ codes "--moment" ∷ codes "time" ∷ codes "--shards" ∷ codes "64" ∷ codes "--as" ∷ codes "json" ∷ codes "--until-fail" ∷ codes "--settle" ∷ codes "7" ∷ codes "--least" ∷ codes "5" ∷ codes "--least-each" ∷ codes "2" ∷ codes "--doubt" ∷ codes "0" ∷ codes "a" ∷ codes "b" ∷ [])
-    ≡ Some (Watch (record { tower = codes "t"; shards = 64; moments = Time; form = line_forms.Json; until_fail = true; settle = 7; demand = record { least = 5; least_each = 2; doubt = 0 }; traces = codes "a" ∷ codes "b" ∷ [] }))
+    ≡ Some (Watch (record { tower = OfFile (codes "t"); shards = 64; moments = Time; form = line_forms.Json; until_fail = true; settle = 7; demand = record { least = 5; least_each = 2; doubt = 0 }; traces = codes "a" ∷ codes "b" ∷ [] }))
 unfolding clap_on_literals
 whole_watch program = refl
 
 pub any_names_to_watch : (program tower trace : Text) → asked (program ∷ codes "watch" ∷ (codes "--tower=" ++ tower) ∷ codes "--" ∷ trace ∷ [])
-    ≡ Some (Watch (record { tower = tower; shards = 1; moments = Index; form = line_forms.Text; until_fail = false; settle = 0; demand = no_demand; traces = trace ∷ [] }))
+    ≡ Some (Watch (record { tower = OfFile tower; shards = 1; moments = Index; form = line_forms.Text; until_fail = false; settle = 0; demand = no_demand; traces = trace ∷ [] }))
 unfolding clap_on_literals
 any_names_to_watch program tower trace = refl
 
-pub no_tower_to_watch : (program : Text) → asked (program ∷ codes "watch" ∷ codes "a" ∷ []) ≡ None
+pub each_watch : (program : Text) → (asked (program ∷ codes "watch" ∷ codes "a" ∷ []) ≡ Some (Watch (record { tower = OfTraces Atomic; shards = 1; moments = Index; form = line_forms.Text; until_fail = false; settle = 0; demand = no_demand; traces = codes "a" ∷ [] })))
+    × (asked (program ∷ codes "watch" ∷ codes "--each=safe" ∷ codes "a" ∷ []) ≡ Some (Watch (record { tower = OfTraces kinds.Safe; shards = 1; moments = Index; form = line_forms.Text; until_fail = false; settle = 0; demand = no_demand; traces = codes "a" ∷ [] })))
 unfolding clap_on_literals
-no_tower_to_watch program = refl
+each_watch program = (refl, refl)
 
 pub no_trace_to_watch : (program : Text) → asked (program ∷ codes "watch" ∷ codes "--tower" ∷ codes "t" ∷ []) ≡ None
 unfolding clap_on_literals
@@ -215,27 +230,27 @@ unfolding clap_on_literals
 taken_watch = refl
 
 pub plain_show : (program : Text) → asked (program ∷ codes "show" ∷ codes "--tower" ∷ codes "t" ∷ codes "a" ∷ [])
-    ≡ Some (Show (record { tower = codes "t"; moments = Index; register = None; picture = pictures.Text; around = 3; all = false; width = None; theme = Auto; demand = no_demand; traces = codes "a" ∷ [] }))
+    ≡ Some (Show (record { tower = OfFile (codes "t"); moments = Index; register = None; picture = pictures.Text; around = 3; all = false; width = None; theme = Auto; demand = no_demand; traces = codes "a" ∷ [] }))
 unfolding clap_on_literals
 plain_show program = refl
 
 pub whole_show : (program : Text) → asked (program ∷ codes "show" ∷ codes "--tower=t" ∷ codes "--moment" ∷ codes "time" ∷ codes "--register" ∷ codes "x" ∷ codes "--html" ∷ codes "--around" ∷ codes "0" ∷ codes "--all" ∷ codes "--width" ∷ codes "72" ∷ codes "--theme" ∷ codes "dark" ∷ codes "--least" ∷ codes "5" ∷ codes "--least-each" ∷ codes "2" ∷ codes "--doubt" ∷ codes "255" ∷ codes "a" ∷ codes "b" ∷ [])
-    ≡ Some (Show (record { tower = codes "t"; moments = Time; register = Some (codes "x"); picture = pictures.Html; around = 0; all = true; width = Some 72; theme = Dark; demand = record { least = 5; least_each = 2; doubt = 255 }; traces = codes "a" ∷ codes "b" ∷ [] }))
+    ≡ Some (Show (record { tower = OfFile (codes "t"); moments = Time; register = Some (codes "x"); picture = pictures.Html; around = 0; all = true; width = Some 72; theme = Dark; demand = record { least = 5; least_each = 2; doubt = 255 }; traces = codes "a" ∷ codes "b" ∷ [] }))
 unfolding clap_on_literals
 whole_show program = refl
 
 pub svg : (program : Text) → asked (program ∷ codes "show" ∷ codes "--tower=t" ∷ codes "--svg" ∷ codes "a" ∷ [])
-    ≡ Some (Show (record { tower = codes "t"; moments = Index; register = None; picture = pictures.Svg; around = 3; all = false; width = None; theme = Auto; demand = no_demand; traces = codes "a" ∷ [] }))
+    ≡ Some (Show (record { tower = OfFile (codes "t"); moments = Index; register = None; picture = pictures.Svg; around = 3; all = false; width = None; theme = Auto; demand = no_demand; traces = codes "a" ∷ [] }))
 unfolding clap_on_literals
 svg program = refl
 
 pub ascii : (program : Text) → asked (program ∷ codes "show" ∷ codes "a" ∷ codes "--ascii" ∷ codes "--tower=t" ∷ [])
-    ≡ Some (Show (record { tower = codes "t"; moments = Index; register = None; picture = pictures.Ascii; around = 3; all = false; width = None; theme = Auto; demand = no_demand; traces = codes "a" ∷ [] }))
+    ≡ Some (Show (record { tower = OfFile (codes "t"); moments = Index; register = None; picture = pictures.Ascii; around = 3; all = false; width = None; theme = Auto; demand = no_demand; traces = codes "a" ∷ [] }))
 unfolding clap_on_literals
 ascii program = refl
 
 pub any_names_to_show : (program tower register trace : Text) → asked (program ∷ codes "show" ∷ (codes "--tower=" ++ tower) ∷ (codes "--register=" ++ register) ∷ codes "--" ∷ trace ∷ [])
-    ≡ Some (Show (record { tower = tower; moments = Index; register = Some register; picture = pictures.Text; around = 3; all = false; width = None; theme = Auto; demand = no_demand; traces = trace ∷ [] }))
+    ≡ Some (Show (record { tower = OfFile tower; moments = Index; register = Some register; picture = pictures.Text; around = 3; all = false; width = None; theme = Auto; demand = no_demand; traces = trace ∷ [] }))
 unfolding clap_on_literals
 any_names_to_show program tower register trace = refl
 
@@ -249,9 +264,34 @@ pub three_pictures : (program : Text) → asked (program ∷ codes "show" ∷ co
 unfolding clap_on_literals
 three_pictures program = refl
 
-pub no_tower_to_show : (program : Text) → asked (program ∷ codes "show" ∷ codes "a" ∷ []) ≡ None
+pub each_show : (program : Text) → (asked (program ∷ codes "show" ∷ codes "a" ∷ []) ≡ Some (Show (record { tower = OfTraces Atomic; moments = Index; register = None; picture = pictures.Text; around = 3; all = false; width = None; theme = Auto; demand = no_demand; traces = codes "a" ∷ [] })))
+    × (asked (program ∷ codes "show" ∷ codes "--each=regular" ∷ codes "a" ∷ []) ≡ Some (Show (record { tower = OfTraces Regular; moments = Index; register = None; picture = pictures.Text; around = 3; all = false; width = None; theme = Auto; demand = no_demand; traces = codes "a" ∷ [] })))
 unfolding clap_on_literals
-no_tower_to_show program = refl
+each_show program = (refl, refl)
+
+pub plain_keys : (program : Text) → asked (program ∷ codes "keys" ∷ codes "a" ∷ codes "b" ∷ []) ≡ Some (Keys (record { kind = Atomic; initial = Known Nil; any_writes = true; traces = codes "a" ∷ codes "b" ∷ [] }))
+unfolding clap_on_literals
+plain_keys program = refl
+
+pub one_writer_keys : (program : Text) → asked (program ∷ codes "keys" ∷ codes "--kind" ∷ codes "regular" ∷ codes "a" ∷ []) ≡ Some (Keys (record { kind = Regular; initial = Known Nil; any_writes = false; traces = codes "a" ∷ [] }))
+unfolding clap_on_literals
+one_writer_keys program = refl
+
+pub whole_keys : (program : Text) → (asked (program ∷ codes "keys" ∷ codes "--kind=atomic" ∷ codes "--initial=unknown" ∷ codes "--writers=first" ∷ codes "a" ∷ []) ≡ Some (Keys (record { kind = Atomic; initial = Unknown; any_writes = false; traces = codes "a" ∷ [] })))
+    × (asked (program ∷ codes "keys" ∷ codes "--kind=safe" ∷ codes "--initial=-7" ∷ codes "a" ∷ []) ≡ Some (Keys (record { kind = kinds.Safe; initial = Known (Int (negsuc 6)); any_writes = false; traces = codes "a" ∷ [] })))
+unfolding clap_on_literals
+whole_keys program = (refl, refl)
+
+pub no_fit : (program : Text) → (asked (program ∷ codes "keys" ∷ codes "--kind=safe" ∷ codes "--initial=unknown" ∷ codes "a" ∷ []) ≡ None)
+    × (asked (program ∷ codes "keys" ∷ codes "--kind=regular" ∷ codes "--writers=any" ∷ codes "a" ∷ []) ≡ None)
+unfolding clap_on_literals
+no_fit program = (refl, refl)
+
+pub no_value : (program : Text) → (asked (program ∷ codes "keys" ∷ codes "--initial=1.5" ∷ codes "a" ∷ []) ≡ None)
+    × (asked (program ∷ codes "keys" ∷ codes "--initial=9223372036854775808" ∷ codes "a" ∷ []) ≡ None)
+    × (asked (program ∷ codes "keys" ∷ []) ≡ None)
+unfolding clap_on_literals
+no_value program = (refl, refl, refl)
 
 pub no_trace_to_show : (program : Text) → asked (program ∷ codes "show" ∷ codes "--tower" ∷ codes "t" ∷ []) ≡ None
 unfolding clap_on_literals
@@ -273,17 +313,17 @@ unfolding clap_on_literals
 taken_shows = (refl, refl)
 
 pub tower_alone : (program : Text) → asked (program ∷ codes "lint" ∷ codes "--tower" ∷ codes "t" ∷ [])
-    ≡ Some (Lint (record { tower = Some (codes "t"); moments = Index; form = lint_forms.Human; most = 3; denied = None; traces = [] }))
+    ≡ Some (Lint (record { tower = OfFile (codes "t"); moments = Index; form = lint_forms.Human; most = 3; denied = None; traces = [] }))
 unfolding clap_on_literals
 tower_alone program = refl
 
 pub traces_alone : (program : Text) → asked (program ∷ codes "lint" ∷ codes "a" ∷ codes "b" ∷ [])
-    ≡ Some (Lint (record { tower = None; moments = Index; form = lint_forms.Human; most = 3; denied = None; traces = codes "a" ∷ codes "b" ∷ [] }))
+    ≡ Some (Lint (record { tower = OfTraces Atomic; moments = Index; form = lint_forms.Human; most = 3; denied = None; traces = codes "a" ∷ codes "b" ∷ [] }))
 unfolding clap_on_literals
 traces_alone program = refl
 
 pub whole_lint : (program : Text) → asked (program ∷ codes "lint" ∷ codes "--tower=t" ∷ codes "--moment" ∷ codes "time" ∷ codes "--as" ∷ codes "json" ∷ codes "--max" ∷ codes "0" ∷ codes "--deny" ∷ codes "L1,L3" ∷ codes "a" ∷ [])
-    ≡ Some (Lint (record { tower = Some (codes "t"); moments = Time; form = lint_forms.Json; most = 0; denied = Some (codes "L1,L3"); traces = codes "a" ∷ [] }))
+    ≡ Some (Lint (record { tower = OfFile (codes "t"); moments = Time; form = lint_forms.Json; most = 0; denied = Some (codes "L1,L3"); traces = codes "a" ∷ [] }))
 unfolding clap_on_literals
 whole_lint program = refl
 
@@ -296,10 +336,9 @@ unfolding clap_on_literals
 no_lint_form program = refl
 
 pub refused_checks : (takes command_line (codes "regaudit" ∷ codes "check" ∷ []) ≡ false)
-    × (takes command_line (codes "regaudit" ∷ codes "check" ∷ codes "a" ∷ []) ≡ false)
     × (takes command_line (codes "regaudit" ∷ codes "check" ∷ codes "--tower" ∷ codes "t" ∷ []) ≡ false)
 unfolding clap_on_literals
-refused_checks = (refl, refl, refl)
+refused_checks = (refl, refl)
 
 pub refused_shards : (takes command_line (codes "regaudit" ∷ codes "check" ∷ codes "--tower=t" ∷ codes "--shards=0" ∷ codes "a" ∷ []) ≡ false)
     × (takes command_line (codes "regaudit" ∷ codes "check" ∷ codes "--tower=t" ∷ codes "--shards=65" ∷ codes "a" ∷ []) ≡ false)

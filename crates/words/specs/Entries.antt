@@ -14,12 +14,15 @@ use Rattle.words.specs.declared.argument.ArgumentEntry.{ArgumentEntry}
 use Rattle.words.specs.declared.argument.Takes.{Takes}
 use Rattle.words.specs.declared.argument.Takes.TheVariants.{Nothing, Text, Number, Place, Places}
 use Rattle.words.specs.declared.cli.CommandEntry.{CommandEntry}
-use Rattle.words.specs.Words.{amiss_rule, any_tower_rule, any_traces_rule, count_rule, deny_rule, doubt_rule, flag_rule, form_rule, moment_rule, only_rule, order_rule, register_rule, shards_rule, shell_rule, theme_rule, tower_rule, traces_rule, width_rule}
+use Rattle.words.specs.Words.{amiss_rule, any_traces_rule, count_rule, deny_rule, doubt_rule, each_rule, flag_rule, form_rule, initial_rule, kind_rule, moment_rule, only_rule, order_rule, register_rule, shards_rule, shell_rule, theme_rule, tower_rule, traces_rule, width_rule, writers_rule}
 
 -- the rule of an argument
 abbrev pub argument_rule : Argument → Rule
 argument_rule arguments.Tower = tower_rule
-argument_rule arguments.AnyTower = any_tower_rule
+argument_rule arguments.Each = each_rule
+argument_rule arguments.Kind = kind_rule
+argument_rule arguments.Initial = initial_rule
+argument_rule arguments.Writers = writers_rule
 argument_rule arguments.TowerFile = record (new_rule (codes "FILE")) { required = true }
 argument_rule arguments.Trace = new_rule (codes "TRACE")
 argument_rule arguments.Traces = traces_rule

@@ -1,20 +1,26 @@
 -- The commands with their arguments, and what words ask for.
-use Rattle.std.specs.Prelude.{◌≡◌, ◌==◌, ◌||◌, ◌&&◌, ◌<◌, ◌≤◌, ◌-◌, ◌^◌, ⊤, ℕ, Bool, true, false, not, List, [], ◌∷◌, length, map, Option, Some, None, is_none, codes, if◌then◌else◌, option_and_then, unwrap_or}
+use Rattle.std.specs.Prelude.{◌≡◌, ◌==◌, ◌||◌, ◌&&◌, ◌<◌, ◌≤◌, ◌-◌, ◌^◌, ⊤, ℕ, Bool, true, false, not, List, [], ◌∷◌, length, map, Option, Some, None, codes, if◌then◌else◌, option_and_then, unwrap_or}
 use Rattle.std.specs.Option.{option_map, option_map_or}
 use Rattle.std.specs.Str.{bytes_eq}
-use Rattle.std.specs.Str.Parse.{digits_value, without_leading_plus}
+use Rattle.std.specs.Str.Parse.{digits_value, signed_digits_value, without_leading_plus, without_leading_sign}
 use Rattle.clap.specs.Lexer.{usize_max}
 use Rattle.clap.specs.Words.{App, Row, Rule, Text, all_of, first_of, new_app, new_rule, subcommand_of, with_rule, with_subcommand}
 use Rattle.clap.specs.Faults.{fault_of}
-use Rattle.clap.specs.ValueTests.{is_unsigned_in}
+use Rattle.clap.specs.ValueTests.{fits_i64, is_numeral, is_unsigned_in}
 use Rattle.clap.specs.declared.builder.action.ArgAction.TheVariants.{SetTrue}
 use Rattle.clap.specs.declared.builder.value_parser.ValueParser.TheVariants as parsers
+use Rattle.intervals.specs.declared.claim.Initial.{Initial}
+use Rattle.intervals.specs.declared.claim.Initial.TheVariants.{Known, Unknown}
+use Rattle.intervals.specs.declared.claim.Kind.{Kind}
+use Rattle.intervals.specs.declared.claim.Kind.TheVariants.{Safe as SafeKind, Regular, Atomic}
+use Rattle.intervals.specs.declared.operation.Value.TheVariants.{Nil, Int}
 use Rattle.words.specs.declared.check.Check.{Check as HeldCheck}
 use Rattle.words.specs.declared.check.ReportForm.{ReportForm}
 use Rattle.words.specs.declared.check.ReportForm.TheVariants.{Report, Summary, Json, Edn}
 use Rattle.jepsen_form.specs.declared.item.MomentField.{MomentField}
 use Rattle.jepsen_form.specs.declared.item.MomentField.TheVariants.{Index, Time}
 use Rattle.words.specs.declared.demand.Demand.{Demand}
+use Rattle.words.specs.declared.keys.Keys.{Keys as HeldKeys}
 use Rattle.words.specs.declared.lint.Lint.{Lint as HeldLint}
 use Rattle.words.specs.declared.lint.LintForm.{LintForm}
 use Rattle.words.specs.declared.lint.LintForm.TheVariants as lint_forms
@@ -28,12 +34,22 @@ use Rattle.words.specs.declared.watch.LineForm.TheVariants as line_forms
 use Rattle.words.specs.declared.watch.Watch.{Watch as HeldWatch}
 use Rattle.words.specs.declared.completion.Shell.{Shell}
 use Rattle.words.specs.Completion.{shell_named}
+use Rattle.words.specs.declared.tower.TowerWord.{TowerWord}
+use Rattle.words.specs.declared.tower.TowerWord.TheVariants as words
 use Rattle.words.specs.declared.words.Command.{Command}
 use Rattle.words.specs.declared.words.Command.TheVariants as commands
 
--- the option `--tower FILE`, which has to be given
+-- the option `--tower FILE`
 abbrev pub tower_rule : Rule
-tower_rule = record (new_rule (codes "tower")) { long = Some (codes "tower"); value_names = 1; required = true }
+tower_rule = record (new_rule (codes "tower")) { long = Some (codes "tower"); value_names = 1 }
+
+-- the option `--each KIND`
+abbrev pub each_rule : Rule
+each_rule = record (new_rule (codes "each")) { long = Some (codes "each"); value_names = 1 }
+
+-- a command, with `--tower` and `--each` added
+abbrev pub with_tower : App → App
+with_tower options = with_rule (with_rule options tower_rule) each_rule
 
 -- the option `--shards N`, from 1 to 64; 1 where it is not given
 abbrev pub shards_rule : Rule
@@ -71,10 +87,10 @@ doubt_rule = record (new_rule (codes "doubt")) { long = Some (codes "doubt"); va
 abbrev pub with_demand : App → App
 with_demand options = with_rule (with_rule (with_rule (with_rule options (count_rule (codes "least") (codes "0"))) (count_rule (codes "least-each") (codes "0"))) doubt_rule) traces_rule
 
--- `check --tower FILE [--shards N] [--moment FIELD] [--order NAME] [--as FORM] [--only WHICH] [--least N]
+-- `check [--tower FILE] [--each KIND] [--shards N] [--moment FIELD] [--order NAME] [--as FORM] [--only WHICH] [--least N]
 -- [--least-each N] [--doubt STATUS] TRACE..`
 abbrev pub check_line : App
-check_line = with_demand (with_rule (with_rule (with_rule (with_rule (with_rule (with_rule (new_app (codes "check")) tower_rule) shards_rule) moment_rule) order_rule) form_rule) only_rule)
+check_line = with_demand (with_rule (with_rule (with_rule (with_rule (with_rule (with_tower (new_app (codes "check"))) shards_rule) moment_rule) order_rule) form_rule) only_rule)
 
 -- the flag `--NAME` of this name
 abbrev pub flag_rule : Text → Rule
@@ -84,10 +100,10 @@ flag_rule name = record (new_rule name) { long = Some name; action = Some SetTru
 abbrev pub with_watch_options : App → App
 with_watch_options options = with_rule (with_rule (with_rule options form_rule) (flag_rule (codes "until-fail"))) (count_rule (codes "settle") (codes "0"))
 
--- `watch --tower FILE [--moment FIELD] [--shards N] [--as FORM] [--until-fail] [--settle N] [--least N] [--least-each N]
--- [--doubt STATUS] TRACE..`
+-- `watch [--tower FILE] [--each KIND] [--moment FIELD] [--shards N] [--as FORM] [--until-fail] [--settle N] [--least N]
+-- [--least-each N] [--doubt STATUS] TRACE..`
 abbrev pub watch_line : App
-watch_line = with_demand (with_watch_options (with_rule (with_rule (with_rule (new_app (codes "watch")) tower_rule) moment_rule) shards_rule))
+watch_line = with_demand (with_watch_options (with_rule (with_rule (with_tower (new_app (codes "watch"))) moment_rule) shards_rule))
 
 -- the option `--register NAME`
 abbrev pub register_rule : Rule
@@ -110,14 +126,10 @@ abbrev pub with_show_options : App → App
 with_show_options options =
     with_rule (with_rule (with_rule (with_rule options (count_rule (codes "around") (codes "3"))) (flag_rule (codes "all"))) width_rule) theme_rule
 
--- `show --tower FILE [--moment FIELD] [--register NAME] [--svg] [--html] [--ascii] [--around N] [--all] [--width N]
+-- `show [--tower FILE] [--each KIND] [--moment FIELD] [--register NAME] [--svg] [--html] [--ascii] [--around N] [--all] [--width N]
 -- [--theme THEME] [--least N] [--least-each N] [--doubt STATUS] TRACE..`
 abbrev pub show_line : App
-show_line = with_demand (with_show_options (with_pictures (with_rule (with_rule (with_rule (new_app (codes "show")) tower_rule) moment_rule) register_rule)))
-
--- the option `--tower FILE`, which may be left out
-abbrev pub any_tower_rule : Rule
-any_tower_rule = record (new_rule (codes "tower")) { long = Some (codes "tower"); value_names = 1 }
+show_line = with_demand (with_show_options (with_pictures (with_rule (with_rule (with_tower (new_app (codes "show"))) moment_rule) register_rule)))
 
 -- the option `--as FORM` of `lint`; `human` where it is not given
 abbrev pub amiss_rule : Rule
@@ -135,9 +147,25 @@ any_traces_rule = record (new_rule (codes "TRACE")) { range = Some (record { sta
 abbrev pub with_lint_options : App → App
 with_lint_options options = with_rule (with_rule (with_rule options (count_rule (codes "max") (codes "3"))) deny_rule) any_traces_rule
 
--- the command `lint [--tower FILE] [--moment FIELD] [--as FORM] [--max N] [--deny CODES] [TRACE..]`
+-- the command `lint [--tower FILE] [--each KIND] [--moment FIELD] [--as FORM] [--max N] [--deny CODES] [TRACE..]`
 abbrev pub lint_line : App
-lint_line = with_lint_options (with_rule (with_rule (with_rule (new_app (codes "lint")) any_tower_rule) moment_rule) amiss_rule)
+lint_line = with_lint_options (with_rule (with_rule (with_tower (new_app (codes "lint"))) moment_rule) amiss_rule)
+
+-- the option `--kind KIND`; `atomic` where it is not given
+abbrev pub kind_rule : Rule
+kind_rule = record (new_rule (codes "kind")) { long = Some (codes "kind"); value_names = 1; defaults = codes "atomic" ∷ [] }
+
+-- the option `--initial VALUE`; `nil` where it is not given
+abbrev pub initial_rule : Rule
+initial_rule = record (new_rule (codes "initial")) { long = Some (codes "initial"); value_names = 1; defaults = codes "nil" ∷ [] }
+
+-- the option `--writers WHO`
+abbrev pub writers_rule : Rule
+writers_rule = record (new_rule (codes "writers")) { long = Some (codes "writers"); value_names = 1 }
+
+-- the command `keys [--kind KIND] [--initial VALUE] [--writers WHO] TRACE..`
+abbrev pub keys_line : App
+keys_line = with_rule (with_rule (with_rule (with_rule (new_app (codes "keys")) kind_rule) initial_rule) writers_rule) traces_rule
 
 -- the command `safe [TRACE]`
 abbrev pub safe_line : App
@@ -171,9 +199,9 @@ completion_line = with_rule (new_app (codes "completion")) shell_rule
 abbrev pub program_line : App
 program_line = let alone = new_app (codes "regaudit") in record alone { top = record alone.top { subcommand_required = true } }
 
--- a line, with the commands `safe` and `tower` added
+-- a line, with the commands `keys`, `safe` and `tower` added
 abbrev pub with_files : App → App
-with_files line = with_subcommand (with_subcommand line safe_line.top) tower_line.top
+with_files line = with_subcommand (with_subcommand (with_subcommand line keys_line.top) safe_line.top) tower_line.top
 
 -- a line, with the commands `explain`, `version` and `manual` added
 abbrev pub with_texts : App → App
@@ -191,9 +219,19 @@ command_line = with_subcommand (with_texts (with_files (with_audits program_line
 abbrev pub no_demand : Demand
 no_demand = record { least = 0; least_each = 0; doubt = 1 }
 
+-- the tower that words ask for: that of a tower file, or that of the registers that the traces name, each of this kind
+pub data AskedTower : Type 0 where
+  OfFile : (file : Text) → AskedTower
+  OfTraces : (kind : Kind) → AskedTower
+
+-- the name of the tower file that is asked for, if there is one
+abbrev pub file_of : AskedTower → Option Text
+file_of (OfFile file) = Some file
+file_of (OfTraces kind) = None
+
 -- what the words of `check` ask for
 pub record AskedCheck : Type 0 where
-  pub tower : Text
+  pub tower : AskedTower
   pub shards : ℕ
   pub moments : MomentField
   pub order : Option Text
@@ -204,7 +242,7 @@ pub record AskedCheck : Type 0 where
 
 -- what the words of `watch` ask for
 pub record AskedWatch : Type 0 where
-  pub tower : Text
+  pub tower : AskedTower
   pub shards : ℕ
   pub moments : MomentField
   pub form : LineForm
@@ -215,7 +253,7 @@ pub record AskedWatch : Type 0 where
 
 -- what the words of `show` ask for
 pub record AskedShow : Type 0 where
-  pub tower : Text
+  pub tower : AskedTower
   pub moments : MomentField
   pub register : Option Text
   pub picture : Picture
@@ -228,11 +266,18 @@ pub record AskedShow : Type 0 where
 
 -- what the words of `lint` ask for
 pub record AskedLint : Type 0 where
-  pub tower : Option Text
+  pub tower : AskedTower
   pub moments : MomentField
   pub form : LintForm
   pub most : ℕ
   pub denied : Option Text
+  pub traces : List Text
+
+-- what the words of `keys` ask for
+pub record AskedKeys : Type 0 where
+  pub kind : Kind
+  pub initial : Initial
+  pub any_writes : Bool
   pub traces : List Text
 
 -- a command with what it asks for; `safe` without a trace judges standard input, `explain` without a code lists all
@@ -243,11 +288,45 @@ pub data Asked : Type 0 where
   Watch : (watch : AskedWatch) → Asked
   Show : (show : AskedShow) → Asked
   Lint : (lint : AskedLint) → Asked
+  Keys : (keys : AskedKeys) → Asked
   Tower : (file : Text) → Asked
   Explain : (code : Option Text) → Asked
   Version : Asked
   Manual : Asked
   Completion : (shell : Shell) → Asked
+
+-- the kind that a text names: `atomic`, `regular` or `safe`
+abbrev pub kind_named : Text → Option Kind
+kind_named text =
+    if bytes_eq text (codes "atomic") then Some Atomic
+    else (if bytes_eq text (codes "regular") then Some Regular
+    else (if bytes_eq text (codes "safe") then Some SafeKind else None))
+
+-- whether a kind is atomic
+abbrev pub is_atomic : Kind → Bool
+is_atomic Atomic = true
+is_atomic Regular = false
+is_atomic SafeKind = false
+
+-- that nobody knows the initial value, which an atomic register may say alone
+abbrev pub unknown_if : Kind → Option Initial
+unknown_if kind = if is_atomic kind then Some Unknown else None
+
+-- the text is an integer of 64 bits: digits, after a sign or none
+abbrev pub is_integer : Text → Bool
+is_integer text = is_numeral (without_leading_sign text) && fits_i64 (signed_digits_value 10 text)
+
+-- the initial value that a text gives to a register of this kind: `nil`, `unknown`, or an integer of 64 bits
+abbrev pub initial_named : Kind → Text → Option Initial
+initial_named kind text =
+    if bytes_eq text (codes "nil") then Some (Known Nil)
+    else (if bytes_eq text (codes "unknown") then unknown_if kind
+    else (if is_integer text then Some (Known (Int (signed_digits_value 10 text))) else None))
+
+-- whether any process may write a register of this kind, by the word of `--writers`: `any`, which an atomic register may
+-- say alone, or `first`
+abbrev pub any_in : Kind → Text → Option Bool
+any_in kind text = if bytes_eq text (codes "first") then Some false else (if bytes_eq text (codes "any") && is_atomic kind then Some true else None)
 
 -- the number of shards that a text gives: digits, after a plus or none, from 1 to 64
 abbrev pub shards_in : Text → Option ℕ
@@ -336,8 +415,20 @@ demand_by rows =
     (said_in count_in (codes "least-each") rows))
     (said_in count_in (codes "least") rows)
 
+-- the tower that these optional words ask for, of `--tower` and `--each`: that of atomic registers where neither is given,
+-- and none where both are
+abbrev pub tower_in : Option Text → Option Text → Option AskedTower
+tower_in (Some file) None = Some (OfFile file)
+tower_in (Some file) (Some each) = None
+tower_in None None = Some (OfTraces Atomic)
+tower_in None (Some each) = option_map OfTraces (kind_named each)
+
+-- the tower that these arguments ask for, or none
+abbrev pub tower_by : List Row → Option AskedTower
+tower_by rows = tower_in (first_of (codes "tower") rows) (first_of (codes "each") rows)
+
 -- what `check` asks for by these values and the other arguments; none where they name no trace
-abbrev pub check_of : Text → ℕ → MomentField → ReportForm → Bool → Demand → List Row → Option AskedCheck
+abbrev pub check_of : AskedTower → ℕ → MomentField → ReportForm → Bool → Demand → List Row → Option AskedCheck
 check_of tower shards moments form only_failing demand rows =
     if length (traces_in rows) == 0 then None
     else Some (record { tower = tower; shards = shards; moments = moments; order = first_of (codes "order") rows; form = form; only_failing = only_failing; demand = demand; traces = traces_in rows })
@@ -352,10 +443,10 @@ check_by rows =
     (said_in form_in (codes "as") rows))
     (said_in moments_in (codes "moment") rows))
     (said_in shards_in (codes "shards") rows))
-    (first_of (codes "tower") rows)
+    (tower_by rows)
 
 -- what `watch` asks for by these values and the other arguments; none where they name no trace
-abbrev pub watch_of : Text → MomentField → ℕ → LineForm → ℕ → Demand → List Row → Option AskedWatch
+abbrev pub watch_of : AskedTower → MomentField → ℕ → LineForm → ℕ → Demand → List Row → Option AskedWatch
 watch_of tower moments shards form settle demand rows =
     if length (traces_in rows) == 0 then None
     else Some (record { tower = tower; shards = shards; moments = moments; form = form; until_fail = is_set (codes "until-fail") rows; settle = settle; demand = demand; traces = traces_in rows })
@@ -370,14 +461,14 @@ watch_by rows =
     (said_in line_form_in (codes "as") rows))
     (said_in shards_in (codes "shards") rows))
     (said_in moments_in (codes "moment") rows))
-    (first_of (codes "tower") rows)
+    (tower_by rows)
 
 -- the picture that the flags among the arguments ask for; none where two are set
 abbrev pub picture_by : List Row → Option Picture
 picture_by rows = picture_in (is_set (codes "svg") rows) (is_set (codes "html") rows) (is_set (codes "ascii") rows)
 
 -- what `show` asks for by these values and the other arguments; none where they name no trace
-abbrev pub show_of : Text → MomentField → Picture → ℕ → ThemeWord → Demand → List Row → Option AskedShow
+abbrev pub show_of : AskedTower → MomentField → Picture → ℕ → ThemeWord → Demand → List Row → Option AskedShow
 show_of tower moments picture around theme demand rows =
     if length (traces_in rows) == 0 then None
     else Some (record { tower = tower; moments = moments; register = first_of (codes "register") rows; picture = picture; around = around; all = is_set (codes "all") rows; width = said_in count_in (codes "width") rows; theme = theme; demand = demand; traces = traces_in rows })
@@ -392,21 +483,46 @@ show_by rows =
     (said_in count_in (codes "around") rows))
     (picture_by rows))
     (said_in moments_in (codes "moment") rows))
-    (first_of (codes "tower") rows)
+    (tower_by rows)
+
+-- whether neither a tower file nor a trace is asked for
+abbrev pub is_nothing : AskedTower → List Text → Bool
+is_nothing (OfFile file) traces = false
+is_nothing (OfTraces kind) traces = length traces == 0
 
 -- what `lint` asks for by these values and the other arguments; none where they name neither a tower file nor a trace
-abbrev pub lint_of : MomentField → LintForm → ℕ → List Row → Option AskedLint
-lint_of moments form most rows =
-    if is_none (first_of (codes "tower") rows) && length (traces_in rows) == 0 then None
-    else Some (record { tower = first_of (codes "tower") rows; moments = moments; form = form; most = most; denied = first_of (codes "deny") rows; traces = traces_in rows })
+abbrev pub lint_of : AskedTower → MomentField → LintForm → ℕ → List Row → Option AskedLint
+lint_of tower moments form most rows =
+    if is_nothing tower (traces_in rows) then None
+    else Some (record { tower = tower; moments = moments; form = form; most = most; denied = first_of (codes "deny") rows; traces = traces_in rows })
 
 -- what `lint` asks for by these arguments, or none
 abbrev pub lint_by : List Row → Option AskedLint
 lint_by rows =
-    option_and_then (λ moments. option_and_then (λ form. option_and_then (λ most. lint_of moments form most rows)
+    option_and_then (λ tower. option_and_then (λ moments. option_and_then (λ form. option_and_then (λ most. lint_of tower moments form most rows)
     (said_in count_in (codes "max") rows))
     (said_in lint_form_in (codes "as") rows))
-    (said_in moments_in (codes "moment") rows)
+    (said_in moments_in (codes "moment") rows))
+    (tower_by rows)
+
+-- whether any process may write a register of this kind, by the arguments: where `--writers` is not given, of an atomic
+-- one alone
+abbrev pub any_by : Kind → List Row → Option Bool
+any_by kind rows = option_map_or (any_in kind) (first_of (codes "writers") rows) (Some (is_atomic kind))
+
+-- what `keys` asks for by these values and the other arguments; none where they name no trace
+abbrev pub keys_of : Kind → Initial → Bool → List Row → Option AskedKeys
+keys_of kind initial any_writes rows =
+    if length (traces_in rows) == 0 then None
+    else Some (record { kind = kind; initial = initial; any_writes = any_writes; traces = traces_in rows })
+
+-- what `keys` asks for by these arguments, or none
+abbrev pub keys_by : List Row → Option AskedKeys
+keys_by rows =
+    option_and_then (λ kind. option_and_then (λ initial. option_and_then (λ any_writes. keys_of kind initial any_writes rows)
+    (any_by kind rows))
+    (said_in (initial_named kind) (codes "initial") rows))
+    (said_in kind_named (codes "kind") rows)
 
 -- the command of this name with what its arguments ask for, or none
 abbrev pub command_by : Text → List Row → Option Asked
@@ -415,12 +531,13 @@ command_by name rows =
     else (if bytes_eq name (codes "watch") then option_map Watch (watch_by rows)
     else (if bytes_eq name (codes "show") then option_map Show (show_by rows)
     else (if bytes_eq name (codes "lint") then option_map Lint (lint_by rows)
+    else (if bytes_eq name (codes "keys") then option_map Keys (keys_by rows)
     else (if bytes_eq name (codes "safe") then Some (Safe (first_of (codes "TRACE") rows))
     else (if bytes_eq name (codes "tower") then option_map Tower (first_of (codes "FILE") rows)
     else (if bytes_eq name (codes "explain") then Some (Explain (first_of (codes "CODE") rows))
     else (if bytes_eq name (codes "version") then Some Version
     else (if bytes_eq name (codes "manual") then Some Manual
-    else option_map Completion (said_in shell_named (codes "SHELL") rows)))))))))
+    else option_map Completion (said_in shell_named (codes "SHELL") rows))))))))))
 
 -- the command that was found in the words, with what its arguments ask for, or none
 abbrev pub asked_by : Option (Text × List Row) → Option Asked
@@ -444,10 +561,15 @@ asked words = if ask_version words then Some Version else asked_by (subcommand_o
 abbrev pub IsWellFormed : List Text → Type 0
 IsWellFormed words = ask_version words ≡ false → fault_of command_line words ≡ []
 
+-- what the program's value of a tower asks for
+abbrev pub asked_tower : TowerWord → AskedTower
+asked_tower (words.File name) = OfFile name.now
+asked_tower (words.Each kind) = OfTraces kind
+
 -- what the program's value of `check` asks for
 abbrev pub asked_check : HeldCheck → AskedCheck
 asked_check check = record {
-  tower = check.tower.now;
+  tower = asked_tower check.tower;
   shards = check.shards;
   moments = check.moments;
   order = option_map (λ name. name.now) check.order;
@@ -460,7 +582,7 @@ asked_check check = record {
 -- what the program's value of `watch` asks for
 abbrev pub asked_watch : HeldWatch → AskedWatch
 asked_watch watch = record {
-  tower = watch.tower.now;
+  tower = asked_tower watch.tower;
   shards = watch.shards;
   moments = watch.moments;
   form = watch.form;
@@ -473,7 +595,7 @@ asked_watch watch = record {
 -- what the program's value of `show` asks for
 abbrev pub asked_show : HeldShow → AskedShow
 asked_show show = record {
-  tower = show.tower.now;
+  tower = asked_tower show.tower;
   moments = show.moments;
   register = option_map (λ name. name.now) show.register;
   picture = show.picture;
@@ -488,12 +610,21 @@ asked_show show = record {
 -- what the program's value of `lint` asks for
 abbrev pub asked_lint : HeldLint → AskedLint
 asked_lint lint = record {
-  tower = option_map (λ name. name.now) lint.tower;
+  tower = asked_tower lint.tower;
   moments = lint.moments;
   form = lint.form;
   most = lint.most;
   denied = option_map (λ codes. codes.now) lint.denied;
   traces = map (λ name. name.now) lint.traces.items;
+}
+
+-- what the program's value of `keys` asks for
+abbrev pub asked_keys : HeldKeys → AskedKeys
+asked_keys keys = record {
+  kind = keys.kind;
+  initial = keys.initial;
+  any_writes = keys.any_writes;
+  traces = map (λ name. name.now) keys.traces.items;
 }
 
 -- what the program's value of a command asks for
@@ -503,6 +634,7 @@ asked_of (commands.Check check) = Check (asked_check check)
 asked_of (commands.Watch watch) = Watch (asked_watch watch)
 asked_of (commands.Show show) = Show (asked_show show)
 asked_of (commands.Lint lint) = Lint (asked_lint lint)
+asked_of (commands.Keys keys) = Keys (asked_keys keys)
 asked_of (commands.Tower file) = Tower file.now
 asked_of (commands.Explain code) = Explain (option_map (λ code. code.now) code)
 asked_of commands.Version = Version
@@ -515,11 +647,12 @@ HasShards (commands.Check check) = (1 ≤ check.shards) × (check.shards ≤ 64)
 HasShards (commands.Watch watch) = (1 ≤ watch.shards) × (watch.shards ≤ 64)
 HasShards _ = ⊤
 
--- a check, a watch or a picture has one trace or more
+-- a check, a watch, a picture or a call of `keys` has one trace or more
 abbrev pub HasTraces : Command → Type 0
 HasTraces (commands.Check check) = 0 < length check.traces.items
 HasTraces (commands.Watch watch) = 0 < length watch.traces.items
 HasTraces (commands.Show show) = 0 < length show.traces.items
+HasTraces (commands.Keys keys) = 0 < length keys.traces.items
 HasTraces _ = ⊤
 
 -- the word is no option: it does not begin with a hyphen, or is the hyphen alone

@@ -6,10 +6,16 @@ ghost use Rattle.words.specs.Entries.{argument_rule, entry_rule};
 /// An argument of a command.
 #[derive(Clone, Copy)]
 pub(crate) enum Argument {
-    /// `--tower FILE`, which has to be given.
+    /// `--tower FILE`.
     Tower,
-    /// `--tower FILE`, which may be left out.
-    AnyTower,
+    /// `--each KIND`.
+    Each,
+    /// `--kind` of `keys`.
+    Kind,
+    /// `--initial` of `keys`.
+    Initial,
+    /// `--writers` of `keys`.
+    Writers,
     /// `FILE`, a tower file.
     TowerFile,
     /// `TRACE`, one at most.
@@ -85,7 +91,10 @@ impl Argument {
     {
         match self {
             Argument::Tower => &TOWER,
-            Argument::AnyTower => &ANY_TOWER,
+            Argument::Each => &EACH,
+            Argument::Kind => &KIND,
+            Argument::Initial => &INITIAL,
+            Argument::Writers => &WRITERS,
             Argument::TowerFile => &TOWER_FILE,
             Argument::Trace => &TRACE,
             Argument::Traces => &TRACES,
@@ -154,15 +163,41 @@ const TOWER_HELP: &str = "The tower file, in EDN, such as examples/tower.edn";
 static TOWER: ArgumentEntry = ArgumentEntry {
     name: "tower",
     value_names: &["FILE"],
-    is_required: true,
-    help: TOWER_HELP,
+    without: &["each"],
+    help: "The tower file, in EDN, such as examples/tower.edn; without it each key of the traces is a register",
     ..OPTION
 };
 
-static ANY_TOWER: ArgumentEntry = ArgumentEntry {
-    name: "tower",
-    value_names: &["FILE"],
-    help: "The tower file; where none is named, the one register of `safe` is taken",
+static EACH: ArgumentEntry = ArgumentEntry {
+    name: "each",
+    value_names: &["KIND"],
+    words: &["atomic", "regular", "safe"],
+    help: "The kind of each register that the traces name, where there is no tower file: atomic where it is not said, regular or safe",
+    ..OPTION
+};
+
+static KIND: ArgumentEntry = ArgumentEntry {
+    name: "kind",
+    value_names: &["KIND"],
+    defaults: &["atomic"],
+    words: &["atomic", "regular", "safe"],
+    help: "What each register claims to be: atomic, regular or safe",
+    ..OPTION
+};
+
+static INITIAL: ArgumentEntry = ArgumentEntry {
+    name: "initial",
+    value_names: &["VALUE"],
+    defaults: &["nil"],
+    help: "What each register holds at first: nil, an integer, or unknown where it is atomic",
+    ..OPTION
+};
+
+static WRITERS: ArgumentEntry = ArgumentEntry {
+    name: "writers",
+    value_names: &["WHO"],
+    words: &["any", "first"],
+    help: "Who writes each register: any process, as of atomic ones where it is not said, or the first alone that does in the traces",
     ..OPTION
 };
 

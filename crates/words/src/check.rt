@@ -6,6 +6,7 @@ ghost use Rattle.clap.specs.Words.{found_of, rows_of};
 ghost use Rattle.words.specs.Words.{asked_check, check_by, count_in, form_in, has_records, moments_in, only_by, only_in, said_in, shards_in, traces_in};
 
 use crate::demand::{Demand, demand_of};
+use crate::tower::{TowerWord, tower_of};
 use clap::ArgMatches;
 use jepsen_form::MomentField;
 use std::alloc::{AllocError, Global};
@@ -38,8 +39,7 @@ impl ReportForm {
 /// What `check` asks for.
 #[derive(Drop)]
 pub struct Check<'a> {
-    /// The tower file.
-    pub tower: &'a str,
+    pub tower: TowerWord<'a>,
     /// From 1 to 64.
     pub shards: u32,
     pub moments: MomentField,
@@ -62,7 +62,7 @@ pub(crate) fn check_of<'a>(
     ensures shards { IfOk result (λ check. IfSome check (λ check. (1 ≤ check.shards) × (check.shards ≤ 64))) }
     ensures traces { IfOk result (λ check. IfSome check (λ check. 0 < length check.traces.items)) }
 {
-    let Some(tower) = found.get_str("tower") else {
+    let Some(tower) = tower_of(found) else {
         return Ok(None);
     };
     let Some(shards) = shards_of(found) else {

@@ -31,7 +31,7 @@ struct CommandEntry {
     arguments: &'static [Argument],
 }
 
-static COMMANDS: [CommandEntry; 10] = [
+static COMMANDS: [CommandEntry; 11] = [
     CommandEntry {
         name: "check",
         about: "Judges the registers of a tower by the operations that traces tell of them",
@@ -39,6 +39,7 @@ static COMMANDS: [CommandEntry; 10] = [
         after_help: Some(STATUSES),
         arguments: &[
             Argument::Tower,
+            Argument::Each,
             Argument::Shards,
             Argument::Moment,
             Argument::Order,
@@ -57,6 +58,7 @@ static COMMANDS: [CommandEntry; 10] = [
         after_help: Some(WATCH_STATUSES),
         arguments: &[
             Argument::Tower,
+            Argument::Each,
             Argument::Moment,
             Argument::Shards,
             Argument::LineForm,
@@ -75,6 +77,7 @@ static COMMANDS: [CommandEntry; 10] = [
         after_help: Some(STATUSES),
         arguments: &[
             Argument::Tower,
+            Argument::Each,
             Argument::Moment,
             Argument::Register,
             Argument::Svg,
@@ -96,12 +99,25 @@ static COMMANDS: [CommandEntry; 10] = [
         long_about: None,
         after_help: Some(LINT_STATUSES),
         arguments: &[
-            Argument::AnyTower,
+            Argument::Tower,
+            Argument::Each,
             Argument::Moment,
             Argument::LintForm,
             Argument::Most,
             Argument::Denied,
             Argument::AnyTraces,
+        ],
+    },
+    CommandEntry {
+        name: "keys",
+        about: "Writes the tower file of the registers that traces name",
+        long_about: Some(KEYS),
+        after_help: Some(KEYS_STATUSES),
+        arguments: &[
+            Argument::Kind,
+            Argument::Initial,
+            Argument::Writers,
+            Argument::Traces,
         ],
     },
     CommandEntry {
@@ -163,6 +179,8 @@ const CHECK: &str = "Judges the registers of a tower by the operations that trac
 
 A tower file names the registers and says of each what it claims to be, safe, regular or
 atomic, and who writes it. One to try is examples/tower.edn; docs/FORMATS.md describes them.
+Without one the registers are those that the traces name, as keys writes them, and the traces
+are files that can be read twice.
 
 The lines of the report:
   register NAME KIND holds N   its N operations are as that kind of register allows
@@ -205,6 +223,20 @@ const WATCH_STATUSES: &str =
   4  no register fails, and fewer operations stand than --least or --least-each says
 
 docs/FORMATS.md describes traces, tower files and what is printed.";
+
+/// What `keys` does.
+const KEYS: &str = "Writes the tower file of the registers that traces name
+
+Each key k of a value [k v] of a read or a write is a register, in the order in which they come;
+where no value is such a pair, there is the one register r. Each claims the same; edit the file
+where yours are other. check, watch, show and lint take such a tower themselves where no tower
+file is named.";
+
+/// The end of the help of `keys`.
+const KEYS_STATUSES: &str = "Exit status:
+  0  the traces were read to their ends
+  2  a trace is broken, and the registers are those named up to there; or nothing could be read
+     or written";
 
 /// The end of the help of `lint`.
 const LINT_STATUSES: &str = "Exit status:

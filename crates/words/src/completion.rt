@@ -78,7 +78,7 @@ _regaudit() {
         before=${COMP_WORDS[COMP_CWORD - 2]}
     fi
     if ((COMP_CWORD == 1)); then
-        words='check watch show lint safe tower explain version manual completion --help --version'
+        words='check watch show lint keys safe tower explain version manual completion --help --version'
     else
         case ${COMP_WORDS[1]}:$before in
             check:--order | show:--register)
@@ -86,6 +86,9 @@ _regaudit() {
                 return
                 ;;
             check:--tower | watch:--tower | show:--tower | lint:--tower) ;;
+            check:--each | watch:--each | show:--each | lint:--each | keys:--kind) words='atomic regular safe' ;;
+            keys:--initial) words='nil unknown' ;;
+            keys:--writers) words='any first' ;;
             check:--shards | watch:--shards) words='1 2 4 8 16 32 64' ;;
             check:--moment | watch:--moment | show:--moment | lint:--moment) words='index time' ;;
             check:--as) words='text summary json edn' ;;
@@ -98,22 +101,27 @@ _regaudit() {
             completion:completion) words='bash zsh fish' ;;
             check:*)
                 if [[ $begun == -* ]]; then
-                    words='--tower --shards --moment --order --as --only --least --least-each --doubt --help'
+                    words='--tower --each --shards --moment --order --as --only --least --least-each --doubt --help'
                 fi
                 ;;
             watch:*)
                 if [[ $begun == -* ]]; then
-                    words='--tower --moment --shards --as --until-fail --settle --least --least-each --doubt --help'
+                    words='--tower --each --moment --shards --as --until-fail --settle --least --least-each --doubt --help'
                 fi
                 ;;
             show:*)
                 if [[ $begun == -* ]]; then
-                    words='--tower --moment --register --svg --html --ascii --around --all --width --theme --least --least-each --doubt --help'
+                    words='--tower --each --moment --register --svg --html --ascii --around --all --width --theme --least --least-each --doubt --help'
                 fi
                 ;;
             lint:*)
                 if [[ $begun == -* ]]; then
-                    words='--tower --moment --as --max --deny --help'
+                    words='--tower --each --moment --as --max --deny --help'
+                fi
+                ;;
+            keys:*)
+                if [[ $begun == -* ]]; then
+                    words='--kind --initial --writers --help'
                 fi
                 ;;
             *)
@@ -164,6 +172,7 @@ _regaudit() {
         'watch:judges registers while traces are read'
         'show:draws a register'
         'lint:says what is amiss in a tower file and in traces'
+        'keys:writes the tower file of what traces name'
         'safe:judges a trace of one safe register'
         'tower:lists the registers of a tower'
         'explain:says what a code or a word of a report means'
@@ -178,7 +187,8 @@ _regaudit() {
             case $words[1] in
                 check)
                     _arguments \
-                        '--tower=[the tower file]:tower file:_files' \
+                        '(--each)--tower=[the tower file]:tower file:_files' \
+                        '(--tower)--each=[the kind of what the traces name]:kind:(atomic regular safe)' \
                         '--shards=[over how many shards the registers are spread]:number:(1 2 4 8 16 32 64)' \
                         '--moment=[the field that moments stand under]:field:(index time)' \
                         '--order=[prints an order of this register]:register:_regaudit_registers' \
@@ -192,7 +202,8 @@ _regaudit() {
                     ;;
                 watch)
                     _arguments \
-                        '--tower=[the tower file]:tower file:_files' \
+                        '(--each)--tower=[the tower file]:tower file:_files' \
+                        '(--tower)--each=[the kind of what the traces name]:kind:(atomic regular safe)' \
                         '--moment=[the field that moments stand under]:field:(index time)' \
                         '--shards=[over how many shards the registers are spread]:number:(1 2 4 8 16 32 64)' \
                         '--as=[what is written]:form:(text json)' \
@@ -206,7 +217,8 @@ _regaudit() {
                     ;;
                 show)
                     _arguments \
-                        '--tower=[the tower file]:tower file:_files' \
+                        '(--each)--tower=[the tower file]:tower file:_files' \
+                        '(--tower)--each=[the kind of what the traces name]:kind:(atomic regular safe)' \
                         '--moment=[the field that moments stand under]:field:(index time)' \
                         '--register=[the register that is drawn]:register:_regaudit_registers' \
                         '(--html --ascii)--svg[one picture, as SVG]' \
@@ -224,11 +236,20 @@ _regaudit() {
                     ;;
                 lint)
                     _arguments \
-                        '--tower=[the tower file]:tower file:_files' \
+                        '(--each)--tower=[the tower file]:tower file:_files' \
+                        '(--tower)--each=[the kind of what the traces name]:kind:(atomic regular safe)' \
                         '--moment=[the field that moments stand under]:field:(index time)' \
                         '--as=[how it is printed]:form:(human short github json)' \
                         '--max=[how many of each code are shown]:number: ' \
                         '--deny=[codes of notes that count as warnings]:codes:(L1 L2 L3 L4 L5 L6 L7 L8)' \
+                        '(- *)'{-h,--help}'[prints help]' \
+                        '*:trace:_files'
+                    ;;
+                keys)
+                    _arguments \
+                        '--kind=[what each register claims to be]:kind:(atomic regular safe)' \
+                        '--initial=[what each register holds at first]:value:(nil unknown)' \
+                        '--writers=[who writes each register]:writers:(any first)' \
                         '(- *)'{-h,--help}'[prints help]' \
                         '*:trace:_files'
                     ;;
@@ -285,6 +306,7 @@ complete -c regaudit -n __fish_use_subcommand -a check -d 'judges the registers 
 complete -c regaudit -n __fish_use_subcommand -a watch -d 'judges registers while traces are read'
 complete -c regaudit -n __fish_use_subcommand -a show -d 'draws a register'
 complete -c regaudit -n __fish_use_subcommand -a lint -d 'says what is amiss in a tower file and in traces'
+complete -c regaudit -n __fish_use_subcommand -a keys -d 'writes the tower file of what traces name'
 complete -c regaudit -n __fish_use_subcommand -a safe -d 'judges a trace of one safe register'
 complete -c regaudit -n __fish_use_subcommand -a tower -d 'lists the registers of a tower'
 complete -c regaudit -n __fish_use_subcommand -a explain -d 'says what a code or a word of a report means'
@@ -292,8 +314,9 @@ complete -c regaudit -n __fish_use_subcommand -a version -d 'says which build th
 complete -c regaudit -n __fish_use_subcommand -a manual -d 'prints all helps and the tables of codes'
 complete -c regaudit -n __fish_use_subcommand -a completion -d 'prints a script that completes the words'
 
-complete -c regaudit -n '__regaudit_is check watch show lint safe tower' -F
+complete -c regaudit -n '__regaudit_is check watch show lint keys safe tower' -F
 complete -c regaudit -n '__regaudit_is check' -l tower -rF -d 'the tower file'
+complete -c regaudit -n '__regaudit_is check watch show lint' -l each -x -a 'atomic regular safe' -d 'the kind of what the traces name'
 complete -c regaudit -n '__regaudit_is check' -l shards -x -a '1 2 4 8 16 32 64' -d 'over how many shards the registers are spread'
 complete -c regaudit -n '__regaudit_is check' -l moment -x -a 'index time' -d 'the field that moments stand under'
 complete -c regaudit -n '__regaudit_is check' -l order -x -a '(__regaudit_registers)' -d 'prints an order of this register'
@@ -323,6 +346,9 @@ complete -c regaudit -n '__regaudit_is lint' -l moment -x -a 'index time' -d 'th
 complete -c regaudit -n '__regaudit_is lint' -l as -x -a 'human short github json' -d 'how it is printed'
 complete -c regaudit -n '__regaudit_is lint' -l max -x -d 'how many of each code are shown'
 complete -c regaudit -n '__regaudit_is lint' -l deny -x -a 'L1 L2 L3 L4 L5 L6 L7 L8' -d 'notes that count as warnings'
+complete -c regaudit -n '__regaudit_is keys' -l kind -x -a 'atomic regular safe' -d 'what each register claims to be'
+complete -c regaudit -n '__regaudit_is keys' -l initial -x -a 'nil unknown' -d 'what each register holds at first'
+complete -c regaudit -n '__regaudit_is keys' -l writers -x -a 'any first' -d 'who writes each register'
 complete -c regaudit -n '__regaudit_is explain' -a '(__regaudit_codes)'
 complete -c regaudit -n '__regaudit_is completion' -a 'bash zsh fish'
 "##;

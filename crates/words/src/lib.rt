@@ -1,14 +1,15 @@
 //! The words of the command line: which command they ask for.
 //!
 //! ```text
-//! regaudit check --tower FILE [--shards N] [--moment index|time] [--order NAME]
+//! regaudit check [--tower FILE] [--each KIND] [--shards N] [--moment index|time] [--order NAME]
 //!     [--as text|summary|json|edn] [--only failing] [--least N] [--least-each N] [--doubt STATUS] TRACE..
-//! regaudit watch --tower FILE [--moment index|time] [--shards N] [--as text|json] [--until-fail] [--settle N]
-//!     [--least N] [--least-each N] [--doubt STATUS] TRACE..
-//! regaudit show --tower FILE [--moment index|time] [--register NAME] [--svg|--html|--ascii] [--around N] [--all]
-//!     [--width N] [--theme auto|light|dark] [--least N] [--least-each N] [--doubt STATUS] TRACE..
-//! regaudit lint [--tower FILE] [--moment index|time] [--as human|short|github|json] [--max N] [--deny CODES]
-//!     [TRACE..]
+//! regaudit watch [--tower FILE] [--each KIND] [--moment index|time] [--shards N] [--as text|json] [--until-fail]
+//!     [--settle N] [--least N] [--least-each N] [--doubt STATUS] TRACE..
+//! regaudit show [--tower FILE] [--each KIND] [--moment index|time] [--register NAME] [--svg|--html|--ascii]
+//!     [--around N] [--all] [--width N] [--theme auto|light|dark] [--least N] [--least-each N] [--doubt STATUS] TRACE..
+//! regaudit lint [--tower FILE] [--each KIND] [--moment index|time] [--as human|short|github|json] [--max N]
+//!     [--deny CODES] [TRACE..]
+//! regaudit keys [--kind KIND] [--initial VALUE] [--writers any|first] TRACE..
 //! regaudit safe [TRACE]
 //! regaudit tower FILE
 //! regaudit explain [CODE]
@@ -20,7 +21,7 @@
 //! ```text
 //! read_words(alloc, &["regaudit", "check", "--tower", "bits.edn", "a.edn", "b.edn"])
 //!     Ok(Command::Check(Check {
-//!         tower: "bits.edn",
+//!         tower: TowerWord::File("bits.edn"),
 //!         shards: 1,
 //!         moments: MomentField::Index,
 //!         order: None,
@@ -42,18 +43,22 @@ mod check;
 mod cli;
 mod completion;
 mod demand;
+mod keys;
 pub mod laws;
 mod lint;
 mod manual;
 mod show;
+mod tower;
 mod watch;
 mod words;
 
 pub use check::{Check, ReportForm};
 pub use completion::Shell;
 pub use demand::Demand;
+pub use keys::Keys;
 pub use lint::{Lint, LintForm};
 pub use manual::help_of_all;
 pub use show::{Picture, Show, ThemeWord};
+pub use tower::TowerWord;
 pub use watch::{LineForm, Watch};
 pub use words::{Command, no_text, read_words};

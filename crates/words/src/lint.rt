@@ -1,11 +1,12 @@
 //! What `lint` asks for.
 
-ghost use Rattle.std.specs.Prelude.{◌≡◌, ◌&&◌, ◌==◌, IfOk, codes, is_none, length};
+ghost use Rattle.std.specs.Prelude.{◌≡◌, IfOk, codes, map};
 ghost use Rattle.std.specs.Option.{option_map};
 ghost use Rattle.clap.specs.Words.{found_of, rows_of};
-ghost use Rattle.words.specs.Words.{asked_lint, lint_by, lint_form_in, said_in};
+ghost use Rattle.words.specs.Words.{asked_lint, asked_tower, is_nothing, lint_by, lint_form_in, said_in};
 
 use crate::check::{count_of, moments_of, traces_of};
+use crate::tower::{TowerWord, tower_of};
 use clap::ArgMatches;
 use jepsen_form::MomentField;
 use std::alloc::{AllocError, Global};
@@ -26,8 +27,7 @@ pub enum LintForm {
 /// What `lint` asks for: a tower file, traces, or both.
 #[derive(Drop)]
 pub struct Lint<'a> {
-    /// The tower file; where there is none, the traces are of the one register of `safe`.
-    pub tower: Option<&'a str>,
+    pub tower: TowerWord<'a>,
     pub moments: MomentField,
     pub form: LintForm,
     /// How many of each code are shown, or 0 for all.
@@ -44,6 +44,9 @@ pub(crate) fn lint_of<'a>(
 ) -> Result<Option<Lint<'a>>, AllocError>
     ensures { IfOk result (λ lint. option_map asked_lint lint ≡ lint_by (rows_of (found_of found.now))) }
 {
+    let Some(tower) = tower_of(found) else {
+        return Ok(None);
+    };
     let Some(moments) = moments_of(found) else {
         return Ok(None);
     };
@@ -53,9 +56,8 @@ pub(crate) fn lint_of<'a>(
     let Some(most) = count_of(found, "max") else {
         return Ok(None);
     };
-    let tower = found.get_str("tower");
     let traces = traces_of(alloc, found)?;
-    if is_empty(tower, &traces) {
+    if is_nothing(&tower, &traces) {
         return Ok(None);
     }
     Ok(Some(Lint {
@@ -69,10 +71,13 @@ pub(crate) fn lint_of<'a>(
 }
 
 /// Whether neither a tower file nor a trace is named.
-fn is_empty(tower: Option<&str>, traces: &[&str]) -> bool
-    ensures { result ≡ (is_none tower.entry && length traces.now == 0) }
+fn is_nothing(tower: &TowerWord, traces: &[&str]) -> bool
+    ensures { result ≡ is_nothing (asked_tower tower.now) (map (λ name. name.now) traces.now) }
 {
-    tower.is_none() && traces.is_empty()
+    match tower {
+        TowerWord::File(_) => false,
+        TowerWord::Each(_) => traces.is_empty(),
+    }
 }
 
 fn lint_form_of(found: &ArgMatches<'_>) -> Option<LintForm>

@@ -7,6 +7,7 @@ ghost use Rattle.words.specs.Words.{asked_show, is_set, picture_by, picture_in, 
 
 use crate::check::{count_of, moments_of, traces_of};
 use crate::demand::{Demand, demand_of};
+use crate::tower::{TowerWord, tower_of};
 use clap::ArgMatches;
 use jepsen_form::MomentField;
 use std::alloc::{AllocError, Global};
@@ -36,8 +37,7 @@ pub enum ThemeWord {
 /// What `show` asks for.
 #[derive(Drop)]
 pub struct Show<'a> {
-    /// The tower file.
-    pub tower: &'a str,
+    pub tower: TowerWord<'a>,
     pub moments: MomentField,
     /// The register that is drawn. Where none is named, a culprit if there is one; as HTML, all registers that fail.
     pub register: Option<&'a str>,
@@ -62,7 +62,7 @@ pub(crate) fn show_of<'a>(
     ensures asks { IfOk result (λ show. option_map asked_show show ≡ show_by (rows_of (found_of found.now))) }
     ensures traces { IfOk result (λ show. IfSome show (λ show. 0 < length show.traces.items)) }
 {
-    let Some(tower) = found.get_str("tower") else {
+    let Some(tower) = tower_of(found) else {
         return Ok(None);
     };
     let Some(moments) = moments_of(found) else {

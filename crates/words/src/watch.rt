@@ -8,6 +8,7 @@ ghost use Rattle.words.specs.Words.{asked_watch, line_form_in, said_in, watch_by
 use crate::check::{count_of, moments_of, shards_of, traces_of};
 use crate::demand::{Demand, demand_of};
 use crate::show::is_set;
+use crate::tower::{TowerWord, tower_of};
 use clap::ArgMatches;
 use jepsen_form::MomentField;
 use std::alloc::{AllocError, Global};
@@ -24,8 +25,7 @@ pub enum LineForm {
 /// What `watch` asks for.
 #[derive(Drop)]
 pub struct Watch<'a> {
-    /// The tower file.
-    pub tower: &'a str,
+    pub tower: TowerWord<'a>,
     /// From 1 to 64.
     pub shards: u32,
     pub moments: MomentField,
@@ -48,7 +48,7 @@ pub(crate) fn watch_of<'a>(
     ensures shards { IfOk result (λ watch. IfSome watch (λ watch. (1 ≤ watch.shards) × (watch.shards ≤ 64))) }
     ensures traces { IfOk result (λ watch. IfSome watch (λ watch. 0 < length watch.traces.items)) }
 {
-    let Some(tower) = found.get_str("tower") else {
+    let Some(tower) = tower_of(found) else {
         return Ok(None);
     };
     let Some(moments) = moments_of(found) else {

@@ -8,11 +8,12 @@ ghost use Rattle.clap.specs.Values.{kind_of};
 ghost use Rattle.clap.specs.Faults.{fault_of};
 ghost use Rattle.clap.specs.declared.error.kind.ErrorKind.TheVariants.{OutOfMemory};
 ghost use Rattle.words.specs.Completion.{shell_named};
-ghost use Rattle.words.specs.Words.{Check as ACheck, HasShards, HasTraces, IsWellFormed, Lint as ALint, Show as AShow, Watch as AWatch, ask_version, asked, asked_by, asked_of, check_by, command_by, command_line, is_version_word, lint_by, said_in, show_by, watch_by};
+ghost use Rattle.words.specs.Words.{Check as ACheck, HasShards, HasTraces, IsWellFormed, Keys as AKeys, Lint as ALint, Show as AShow, Watch as AWatch, ask_version, asked, asked_by, asked_of, check_by, command_by, command_line, is_version_word, keys_by, lint_by, said_in, show_by, watch_by};
 
 use crate::check::{Check, check_of};
 use crate::cli::{Vocabulary, command_line, command_named};
 use crate::completion::Shell;
+use crate::keys::{Keys, keys_initial, keys_of};
 use crate::lint::{Lint, lint_of};
 use crate::show::{Show, show_of};
 use crate::watch::{Watch, watch_of};
@@ -34,6 +35,8 @@ pub enum Command<'a> {
     Show(Show<'a>),
     /// Finds what is amiss in a tower file and in traces.
     Lint(Lint<'a>),
+    /// Writes the tower file of the registers that traces name.
+    Keys(Keys<'a>),
     /// Lists the registers of the tower file that is named.
     Tower(&'a str),
     /// Says what a code or a word of the report means, or lists all of them.
@@ -106,31 +109,47 @@ fn usage_fault(alloc: Global, message: &str) -> Result<Error, AllocError> {
 }
 
 /// The fault of words that `clap` takes and that ask for nothing. Where an argument has none of its few words, or two
-/// flags ask for pictures, `clap` reports that in its own text, by a line that takes only these words and one such
-/// flag; else `check` has `--only` and prints no records, or `lint` is given nothing to read. That line holds the words
-/// as they were lent to it, so no line of `specs/` is equal to it, and words are not read by it.
+/// that do not go together are given, `clap` reports that in its own text, by a line that takes only these words and no
+/// such two; else `check` has `--only` and prints no records, `keys` has words that do not fit its kind, or `lint` is given
+/// nothing to read. That line holds the words as they were lent to it, so no line of `specs/` is equal to it, and words are
+/// not read by it.
 fn refused<'a, S: AsStr>(alloc: Global, words: &'a [S]) -> Result<Error, AllocError> {
     let mut line = command_line(alloc, Vocabulary::Closed)?;
     match line.try_get_matches_from_mut(words) {
         Err(error) => Ok(error),
         Ok(matches) => {
             let name = matches.subcommand_name();
-            let (kind, message) = complaint(name);
+            let (kind, message) = complaint(&matches);
             command_named(alloc, name.unwrap_or(""))?.error(kind, message)
         }
     }
 }
 
-/// What is amiss with words of the command of this name that ask for nothing.
-fn complaint(name: Option<&str>) -> (ErrorKind, &'static str) {
-    match name {
-        Some("check") => (
+/// What is amiss with words that ask for nothing.
+fn complaint(matches: &ArgMatches<'_>) -> (ErrorKind, &'static str) {
+    match matches.subcommand() {
+        Some(("check", _)) => (
             ErrorKind::ArgumentConflict,
             "--only needs --as json or --as edn",
         ),
+        Some(("keys", found)) => keys_complaint(found),
         _ => (
             ErrorKind::MissingRequiredArgument,
             "a tower file or a trace is required",
+        ),
+    }
+}
+
+/// What is amiss with the words of `keys`: the initial value, or else the writers.
+fn keys_complaint(found: &ArgMatches<'_>) -> (ErrorKind, &'static str) {
+    match keys_initial(found) {
+        Some(_) => (
+            ErrorKind::ArgumentConflict,
+            "--writers any is for atomic registers; a safe or regular one has one writer",
+        ),
+        None => (
+            ErrorKind::InvalidValue,
+            "--initial takes nil, an integer of 64 bits or, for atomic registers, unknown",
         ),
     }
 }
@@ -157,6 +176,9 @@ fn command_of<'a>(
     }
     if name == "lint" {
         return lint_command(alloc, found);
+    }
+    if name == "keys" {
+        return keys_command(alloc, found);
     }
     Ok(other_command(name, found))
 }
@@ -217,12 +239,27 @@ fn lint_command<'a>(
     }
 }
 
-/// The command of this name, other than `check`, `watch`, `show` and `lint`.
+fn keys_command<'a>(
+    alloc: Global,
+    found: &ArgMatches<'a>,
+) -> Result<Option<Command<'a>>, AllocError>
+    ensures asks { IfOk result (λ command. option_map asked_of command ≡ option_map AKeys (keys_by (rows_of (found_of found.now)))) }
+    ensures shards { IfOk result (λ command. IfSome command HasShards) }
+    ensures traces { IfOk result (λ command. IfSome command HasTraces) }
+{
+    match keys_of(alloc, found)? {
+        Some(keys) => Ok(Some(Command::Keys(keys))),
+        None => Ok(None),
+    }
+}
+
+/// The command of this name, other than `check`, `watch`, `show`, `lint` and `keys`.
 fn other_command<'a>(name: &str, found: &ArgMatches<'a>) -> Option<Command<'a>>
     requires check { bytes_eq name.now (codes "check") ≡ false }
     requires watch { bytes_eq name.now (codes "watch") ≡ false }
     requires show { bytes_eq name.now (codes "show") ≡ false }
     requires lint { bytes_eq name.now (codes "lint") ≡ false }
+    requires keys { bytes_eq name.now (codes "keys") ≡ false }
     ensures asks { option_map asked_of result ≡ command_by name.now (rows_of (found_of found.now)) }
     ensures shards { IfSome result HasShards }
     ensures traces { IfSome result HasTraces }

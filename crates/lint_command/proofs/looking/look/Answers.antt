@@ -1,12 +1,12 @@
-use Rattle.std.proofs.Common.{◌≡◌, ◌∙◌, ℕ, List, Option, ap, map, rules, string_bytes, subst, sym}
-use Rattle.std.specs.Prelude.{IfSome, option_map}
+use Rattle.std.proofs.Common.{◌≡◌, ◌∙◌, ℕ, List, ap, map, rules, string_bytes, subst, sym}
+use Rattle.std.specs.Prelude.{IfSome}
 use Rattle.std.specs.Borrow.{Bor}
 use Rattle.std.specs.Io.KnownBytes.{Appends}
-use Rattle.words.specs.Words.{asked_lint}
+use Rattle.words.specs.Words.{asked_lint, asked_tower}
 use Rattle.lint_command.specs.declared.looking.Printout.{Printout}
-use Rattle.lint_command.proofs.Findings.{HasLooked, looked_alone, looked_by}
+use Rattle.lint_command.proofs.Findings.{HasLooked, held_file, looked_by, looked_named}
 use Rattle.command_parts.proofs.Readings.{held_later, read_known}
-use Rattle.lint_command.proofs.looking.look.Goals.{in-None+in_ok-told-in-None, in-Some+in_ok-told-in-Some}
+use Rattle.lint_command.proofs.looking.look.Goals.{in-Each+in_ok-told-in-Each, in-File+in_ok-told-in-File}
 use Rattle.lint_command.proofs.looking.look.Goals as goal
 
 pub returns-in-Ok-write_text-clause-looked : goal.returns-in-Ok-write_text-clause-looked
@@ -24,24 +24,23 @@ returns-in-Ok-write_text-clause-looked g c = λ traces held.
     let tells : Printout → Type 0 = λ told. HasLooked (asked_lint asked) files traces denied (string_bytes told.text) told.status in
     let looked : tells c.match-asked.told =
     elim c.match-asked.branch [
-      | in-None+in_ok-told-in-None w ↦
-          let told = w.in_ok-told-in-None.told in
-          let is = w.in_ok-told-in-None.ensures.told in
+      | in-Each+in_ok-told-in-Each w ↦
+          let told = w.in_ok-told-in-Each.told in
+          let is = w.in_ok-told-in-Each.ensures.told in
           subst tells (sym w.told-is)
-          (subst (λ (codes : List (Bor (List ℕ))). HasLooked (asked_lint asked) files traces codes (string_bytes told.text) told.status) w.deref-in-None-2.ensures.value
-          (looked_alone (asked_lint asked) files traces (map (λ slice. slice.now) w.deref-in-None.result.now) w.deref-in-None-2.result.now is.0 (string_bytes told.text) told.status
-          (ap (option_map (λ name. name.now)) w.in-None.is) (ap (map (λ slice. slice.now)) w.deref-in-None.ensures.value ∙ are) is.1 is.2))
-      | in-Some+in_ok-told-in-Some w ↦
-          let told = w.in_ok-told-in-Some.told in
-          let is = w.in_ok-told-in-Some.ensures.told in
-          let name = w.in-Some.name in
-          let known : IfSome (files name.now) (λ known. c.in_ok-file.file.items ≡ known) =
-          subst (λ (tower : Option (Bor (List ℕ))). IfSome tower (λ name. IfSome (files name.now) (λ known. c.in_ok-file.file.items ≡ known))) w.in-Some.is c.in_ok-file.ensures.held in
+          (subst (λ (codes : List (Bor (List ℕ))). HasLooked (asked_lint asked) files traces codes (string_bytes told.text) told.status) w.deref-in-Each-2.ensures.value
+          (looked_named (asked_lint asked) files traces (map (λ slice. slice.now) w.deref-in-Each.result.now) w.deref-in-Each-2.result.now w.in-Each.kind is.0 (string_bytes told.text) told.status
+          (ap asked_tower w.in-Each.is) (ap (map (λ slice. slice.now)) w.deref-in-Each.ensures.value ∙ are) is.1 is.2))
+      | in-File+in_ok-told-in-File w ↦
+          let told = w.in_ok-told-in-File.told in
+          let is = w.in_ok-told-in-File.ensures.told in
+          let name = w.in-File.name in
+          let known : IfSome (files name.now) (λ known. c.in_ok-file.file.items ≡ known) = held_file files asked.tower name c.file.result c.in_ok-file.file.items w.in-File.is c.file.ensures c.in_ok-file.ensures.held in
           subst tells (sym w.told-is)
-          (subst (λ (codes : List (Bor (List ℕ))). HasLooked (asked_lint asked) files traces codes (string_bytes told.text) told.status) w.deref-in-Some-3.ensures.value
-          (looked_by (asked_lint asked) files traces (map (λ slice. slice.now) w.deref-in-Some-2.result.now) w.deref-in-Some-3.result.now name.now w.deref-in-Some.result.now is.0 is.1 (string_bytes told.text) told.status
-          (ap (option_map (λ name. name.now)) w.in-Some.is) (subst (λ (bytes : List ℕ). IfSome (files name.now) (λ known. bytes ≡ known)) (sym w.deref-in-Some.ensures.value) known)
-          (ap (map (λ slice. slice.now)) w.deref-in-Some-2.ensures.value ∙ are) is.2 is.3))
+          (subst (λ (codes : List (Bor (List ℕ))). HasLooked (asked_lint asked) files traces codes (string_bytes told.text) told.status) w.deref-in-File-3.ensures.value
+          (looked_by (asked_lint asked) files traces (map (λ slice. slice.now) w.deref-in-File-2.result.now) w.deref-in-File-3.result.now name.now w.deref-in-File.result.now is.0 is.1 (string_bytes told.text) told.status
+          (ap asked_tower w.in-File.is) (subst (λ (bytes : List ℕ). IfSome (files name.now) (λ known. bytes ≡ known)) (sym w.deref-in-File.ensures.value) known)
+          (ap (map (λ slice. slice.now)) w.deref-in-File-2.ensures.value ∙ are) is.2 is.3))
     ] in
     record {
       names = looked.0;

@@ -1,4 +1,4 @@
-use Rattle.words.proofs.Asking.{any_names, between_traces, edn_check, failing_check, json_check, plain_check, two_traces, whole_check, whole_records}
+use Rattle.words.proofs.Asking.{any_names, between_traces, each_check, edn_check, failing_check, json_check, plain_check, two_traces, whole_check, whole_records}
 use Rattle.words.proofs.laws.checks_in_turn.Goals as goal
 
 pub returns-clause-plain : goal.returns-clause-plain
@@ -12,6 +12,9 @@ returns-clause-two c = two_traces
 
 pub returns-clause-between : goal.returns-clause-between
 returns-clause-between c = between_traces
+
+pub returns-clause-each : goal.returns-clause-each
+returns-clause-each c = each_check
 
 pub returns-clause-any_names : goal.returns-clause-any_names
 returns-clause-any_names c = any_names

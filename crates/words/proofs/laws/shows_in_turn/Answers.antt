@@ -1,4 +1,4 @@
-use Rattle.words.proofs.Asking.{plain_show, whole_show, svg, ascii, any_names_to_show, two_pictures, three_pictures, no_tower_to_show, no_trace_to_show, no_theme, refused_widths, taken_shows}
+use Rattle.words.proofs.Asking.{plain_show, whole_show, svg, ascii, any_names_to_show, two_pictures, three_pictures, each_show, no_trace_to_show, no_theme, refused_widths, taken_shows}
 use Rattle.words.proofs.laws.shows_in_turn.Goals as goal
 
 pub returns-clause-plain : goal.returns-clause-plain
@@ -22,8 +22,8 @@ returns-clause-two_pictures c = two_pictures
 pub returns-clause-three_pictures : goal.returns-clause-three_pictures
 returns-clause-three_pictures c = three_pictures
 
-pub returns-clause-no_tower : goal.returns-clause-no_tower
-returns-clause-no_tower c = no_tower_to_show
+pub returns-clause-each : goal.returns-clause-each
+returns-clause-each c = each_show
 
 pub returns-clause-no_trace : goal.returns-clause-no_trace
 returns-clause-no_trace c = no_trace_to_show

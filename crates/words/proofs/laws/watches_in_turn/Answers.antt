@@ -1,4 +1,4 @@
-use Rattle.words.proofs.Asking.{plain_watch, whole_watch, any_names_to_watch, no_tower_to_watch, no_trace_to_watch, no_moment_to_watch, no_line_form, refused_settle, refused_shards_to_watch, taken_watch}
+use Rattle.words.proofs.Asking.{plain_watch, whole_watch, any_names_to_watch, each_watch, no_trace_to_watch, no_moment_to_watch, no_line_form, refused_settle, refused_shards_to_watch, taken_watch}
 use Rattle.words.proofs.laws.watches_in_turn.Goals as goal
 
 pub returns-clause-plain : goal.returns-clause-plain
@@ -10,8 +10,8 @@ returns-clause-whole c = whole_watch
 pub returns-clause-any_names : goal.returns-clause-any_names
 returns-clause-any_names c = any_names_to_watch
 
-pub returns-clause-no_tower : goal.returns-clause-no_tower
-returns-clause-no_tower c = no_tower_to_watch
+pub returns-clause-each : goal.returns-clause-each
+returns-clause-each c = each_watch
 
 pub returns-clause-no_trace : goal.returns-clause-no_trace
 returns-clause-no_trace c = no_trace_to_watch

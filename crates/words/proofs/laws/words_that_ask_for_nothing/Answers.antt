@@ -1,4 +1,4 @@
-use Rattle.words.proofs.Asking.{alone, other, help, no_file, no_check, no_tower, no_trace, no_moment, no_form, no_only, no_records, no_shell, nothing, refused, refused_checks, refused_shards, taken}
+use Rattle.words.proofs.Asking.{alone, other, help, no_file, no_check, two_towers, no_kind, no_trace, no_moment, no_form, no_only, no_records, no_shell, nothing, refused, refused_checks, refused_shards, taken}
 use Rattle.words.proofs.laws.words_that_ask_for_nothing.Goals as goal
 
 pub returns-clause-alone : goal.returns-clause-alone
@@ -16,8 +16,11 @@ returns-clause-no_file c = no_file
 pub returns-clause-no_check : goal.returns-clause-no_check
 returns-clause-no_check c = no_check
 
-pub returns-clause-no_tower : goal.returns-clause-no_tower
-returns-clause-no_tower c = no_tower
+pub returns-clause-two_towers : goal.returns-clause-two_towers
+returns-clause-two_towers c = two_towers
+
+pub returns-clause-no_kind : goal.returns-clause-no_kind
+returns-clause-no_kind c = no_kind
 
 pub returns-clause-no_trace : goal.returns-clause-no_trace
 returns-clause-no_trace c = no_trace
