@@ -1,14 +1,23 @@
 -- What is printed on standard error of a run that broke off.
 use Rattle.std.specs.Prelude.{List, ℕ, [], ◌∷◌, ◌++◌, Option, Some, None, codes}
 use Rattle.std.specs.Borrow.{Bor}
+use Rattle.std.specs.Fmt.{decimal}
 use Rattle.shards.specs.Code.{shard_fault_code}
+use Rattle.logs.specs.Code.{break_code_of}
+use Rattle.logs.specs.declared.log.Broken.{Broken}
 use Rattle.feeders.specs.declared.fault.RunFault.{RunFault}
 use Rattle.feeders.specs.declared.fault.RunFault.TheVariants as runs
 use Rattle.command_parts.specs.declared.fault.CommandFault.{CommandFault}
-use Rattle.command_parts.specs.declared.fault.CommandFault.TheVariants.{Usage, TooManyTraces, Unreadable, ReadOnce, Tower, NoRegister, NoCode, NoNote, Shard, Memory, Unwritable, Untold}
+use Rattle.command_parts.specs.declared.fault.CommandFault.TheVariants.{Usage, TooManyTraces, Unreadable, ReadOnce, Tower, Misnamed, Named, NoRegister, NoCode, NoNote, Shard, Memory, Unwritable, Untold}
 use Rattle.feeders.specs.declared.whole.InputFault.{InputFault}
 use Rattle.feeders.specs.declared.whole.InputFault.TheVariants as inputs
 use Rattle.phrases.specs.Names.{printed}
+
+-- the line of a trace of which only what is before its first fault is named
+abbrev pub named_before : List ℕ → Broken → List ℕ
+named_before name broken =
+    codes "regaudit: " ++ printed name ++ codes " breaks at byte " ++ decimal broken.place ++ codes ": " ++ break_code_of broken.code
+    ++ codes "; what comes before is named, and regaudit lint shows where it is" ++ 10 ∷ []
 
 -- the line that says why a run broke off; none for a usage fault, whose text is clap's
 abbrev pub complaint_of : CommandFault → Option (List ℕ)
@@ -18,6 +27,8 @@ complaint_of (Unreadable name) = Some (codes "regaudit: cannot read " ++ printed
 complaint_of (ReadOnce name) =
     Some (codes "regaudit: " ++ printed name.now ++ codes " can be read only once: name a tower file by --tower; regaudit keys writes one" ++ 10 ∷ [])
 complaint_of (Tower code) = Some (codes "regaudit: tower " ++ code.now ++ 10 ∷ [])
+complaint_of Misnamed = Some (codes "regaudit: the tower file does not say what the traces name" ++ 10 ∷ [])
+complaint_of (Named name broken) = Some (named_before name.now broken)
 complaint_of (NoRegister name) = Some (codes "regaudit: no register " ++ printed name.now ++ 10 ∷ [])
 complaint_of (NoCode name) = Some (codes "regaudit: no code " ++ printed name.now ++ codes "; regaudit explain lists them" ++ 10 ∷ [])
 complaint_of (NoNote name) = Some (codes "regaudit: '" ++ printed name.now ++ codes "' is no note; --deny takes L1 to L8" ++ 10 ∷ [])

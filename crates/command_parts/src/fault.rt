@@ -3,9 +3,10 @@
 ghost use Rattle.std.specs.Prelude.{◌≡◌, ◌≢◌, ◌∷◌, ◌++◌, [], Some, IfOk, IfSome, OnOk, codes, string_bytes};
 ghost use Rattle.tower_file.specs.Tower.{tower_fault_code};
 ghost use Rattle.phrases.specs.Names.{printed};
-ghost use Rattle.command_parts.specs.Complaint.{broken_off, complaint_of, unread};
+ghost use Rattle.command_parts.specs.Complaint.{broken_off, complaint_of, named_before, unread};
 
 use feeders::{InputFault, RunFault};
+use logs::Broken;
 use phrases::push_printed;
 use shards::ShardFault;
 use std::alloc::{AllocError, Global};
@@ -26,6 +27,10 @@ pub enum CommandFault<'a> {
     ReadOnce(&'a str),
     /// A tower file with a fault, by its code.
     Tower(&'static str),
+    /// The tower file of what traces name says another tower than that of the names.
+    Misnamed,
+    /// A trace of which only what is before its first fault is named.
+    Named(&'a str, Broken),
     /// The tower has no register of the name that `--order` or `--register` gives.
     NoRegister(&'a str),
     /// The name is that of no code and no word of a report.
@@ -120,6 +125,10 @@ fn complaint(alloc: Global, fault: &CommandFault<'_>) -> Result<String, AllocErr
             text.push_str(code)?;
             text.push_str("\n")?;
         }
+        CommandFault::Misnamed => {
+            text.push_str("regaudit: the tower file does not say what the traces name\n")?
+        }
+        CommandFault::Named(name, broken) => push_broken_line(&mut text, name, *broken)?,
         CommandFault::NoRegister(name) => push_line(&mut text, "regaudit: no register ", name, "")?,
         CommandFault::NoCode(name) => push_line(
             &mut text,
@@ -145,6 +154,18 @@ fn complaint(alloc: Global, fault: &CommandFault<'_>) -> Result<String, AllocErr
         }
     }
     Ok(text)
+}
+
+/// Adds the line of a trace of which only what is before its first fault is named.
+fn push_broken_line(text: &mut String, name: &str, broken: Broken) -> Result<(), AllocError>
+    ensures { OnOk result (string_bytes text.new ≡ string_bytes text.old ++ named_before name.now broken) }
+{
+    text.push_str("regaudit: ")?;
+    push_printed(text, name.as_bytes())?;
+    text.push_str(" breaks at byte ")?;
+    write!(text, "{}: ", broken.place)?;
+    text.push_str(broken.code.code())?;
+    text.push_str("; what comes before is named, and regaudit lint shows where it is\n")
 }
 
 /// Adds a line with a name in it, between these words.

@@ -25,7 +25,7 @@ pub use fault::{CommandFault, say};
 pub use files::{Files, HostFiles, Missing, open_file, open_files, read_file, read_files};
 pub use job::{Job, TRACE_LIMIT};
 pub use judging::{Judged, judge};
-pub use naming::{WrittenNames, write_names};
+pub use naming::{WrittenNames, has_fault, say_faults, write_names};
 pub use opening::{OpenedRun, open_run};
 pub use status::{BROKEN, is_refused, status_after, status_of};
 pub use tower::{named, read_tower, the_tower, tower_in};

@@ -32,7 +32,7 @@ pub fn read_tower<'a, F: Files>(
 }
 
 /// The tower that bytes say.
-fn tower_of<'a>(alloc: Global, bytes: &[u8]) -> Result<Tower, CommandFault<'a>>
+pub(crate) fn tower_of<'a>(alloc: Global, bytes: &[u8]) -> Result<Tower, CommandFault<'a>>
     ensures tower { IfOk result (λ tower. IsTowerOf bytes.now tower) }
     ensures quiet { IfErr result (λ fault. fault ≢ CommandFault.Unwritable) }
 {
@@ -72,7 +72,7 @@ fn tower_named<'a, F: Files>(
 {
     need_again(files, traces)?;
     let written = write_names(alloc, files, &claim_each(kind), traces)?;
-    tower_of(alloc, &written.file)
+    Ok(written.tower)
 }
 
 /// The tower of the registers that these texts name, each of this kind.
@@ -80,10 +80,8 @@ pub fn tower_in<'a>(alloc: Global, kind: Kind, texts: &[&[u8]]) -> Result<Tower,
     ensures tower { IfOk result (λ read. OfNames kind (map (λ text. text.now) texts.now) (λ file. IsTowerOf file read)) }
     ensures quiet { IfErr result (λ fault. fault ≢ CommandFault.Unwritable) }
 {
-    let Ok(written) = names_of(alloc, &claim_each(kind), texts) else {
-        return Err(CommandFault::Memory);
-    };
-    tower_of(alloc, &written.file)
+    let written = names_of(alloc, &claim_each(kind), texts)?;
+    Ok(written.tower)
 }
 
 fn claim_each(kind: Kind) -> NameClaim

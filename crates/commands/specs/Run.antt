@@ -1,7 +1,9 @@
 -- What a run of the program did.
-use Rattle.std.specs.Prelude.{◌≡◌, ℕ, Bool, false, not, List, Option, Some, None, IfSome}
+use Rattle.std.specs.Prelude.{◌≡◌, ℕ, false, List, Option, Some, None, IfSome, is_some}
+use Rattle.std.specs.List.{list_any}
 use Rattle.std.specs.Io.KnownBytes.{Appends}
 use Rattle.clap.specs.Words.{Text}
+use Rattle.edn_reader.specs.declared.fault.EdnFault.{EdnFault}
 use Rattle.tower_file.specs.Contents.{TowerModel}
 use Rattle.tower_file.specs.Tower.{IsTowerOf}
 use Rattle.report.specs.Listing.{tower_lines}
@@ -30,14 +32,14 @@ pub record IsListed (file : List ℕ) (status : ℕ) (old new : Option (List ℕ
 abbrev pub claim_asked : AskedKeys → NameClaim
 claim_asked asked = record { kind = asked.kind; initial = asked.initial; any_writes = asked.any_writes }
 
--- what `keys` did: the tower file of what the traces name was written, up to the first fault of each; the status is 2 where
--- one has a fault
+-- what `keys` did: the tower file of what the traces name was written, up to the first fault of each, and it says a register
+-- for each name; the status is 2 where one has a fault
 pub record IsNaming (asked : AskedKeys) (traces : List (List ℕ)) (status : ℕ) (old new : Option (List ℕ)) : Type 0 where
-  pub whole : Bool
+  pub faults : List (Option EdnFault)
   pub file : List ℕ
-  pub is : IsFileOfNames (claim_asked asked) traces whole file
+  pub is : IsFileOfNames (claim_asked asked) traces faults file
   pub written : Appends old new file
-  pub status_is : status ≡ status_of (not whole) false false false
+  pub status_is : status ≡ status_of (list_any is_some faults) false false false
 
 -- the command was carried out, over files and a standard input whose bytes are known
 abbrev pub IsCarriedOut : Asked → (Text → Option (List ℕ)) → Option (List ℕ) → ℕ → Option (List ℕ) → Option (List ℕ) → Type 0

@@ -1,22 +1,27 @@
 //! A run of the program: its words, its command and its status.
 
-ghost use Rattle.std.specs.Prelude.{◌≡◌, ◌≢◌, ℕ, List, IsErr, IfOk, IfErr, IfSome, MatchResult, None, map};
+ghost use Rattle.std.specs.Prelude.{◌≡◌, ◌≢◌, ℕ, List, IsErr, IfOk, IfErr, IfSome, MatchResult, None, false, is_some, map};
+ghost use Rattle.std.specs.List.{list_any};
 ghost use Rattle.std.specs.Result.{IsOkAnd};
 ghost use Rattle.std.specs.Io.KnownBytes.{Keeps};
 ghost use Rattle.words.specs.Words.{HasShards, HasTraces, Safe, asked, asked_keys, asked_of};
 ghost use Rattle.command_parts.specs.Files.{AreHeld};
+ghost use Rattle.command_parts.specs.Status.{status_of};
 ghost use Rattle.check_command.specs.Verdict.{IsAudited};
 ghost use Rattle.commands.specs.Run.{IsListed, IsNaming, IsCarriedOut, IsDone, IsWatch, WantInput, WritesWhole};
 
 use crate::print::{explain, print, print_manual};
 use check_command::{check, safe};
 use command_parts::{
-    BROKEN, CommandFault, Files, open_file, read_tower, say, status_of, write_bytes, write_names,
+    BROKEN, CommandFault, Files, has_fault, open_file, read_tower, say, say_faults, status_of,
+    write_bytes, write_names,
 };
+use edn_reader::EdnFault;
 use keys::NameClaim;
 use lint_command::look;
 use report::tower_text;
 use show_command::draw;
+use std::alloc::Global;
 use std::convert::AsStr;
 use std::io::{Read, Write};
 use std::rt::Env;
@@ -49,7 +54,7 @@ pub fn run<
 {
     match words {
         Ok(words) => {
-            let outcome = run_words(rt, words.as_slice(), files, input, out);
+            let outcome = run_words(rt, words.as_slice(), files, input, out, err);
             conclude(rt, outcome, err)
         }
         Err(error) => conclude(rt, Err(CommandFault::of_unread(rt.alloc(), error)), err),
@@ -88,7 +93,7 @@ pub fn conclude<'a, A: AllocGlobal, E: Write>(
 }
 
 /// Carries out what the words ask for. Where the run breaks off `out` is as it was, unless `out` could not be written, or
-/// a watch wrote whole notices before.
+/// a watch wrote whole notices before; why is left to say. Which traces `keys` names in part alone goes to `err`.
 pub fn run_words<
     'a,
     A: AllocGlobal + Threads + Wait + Sync,
@@ -96,14 +101,23 @@ pub fn run_words<
     F: Files,
     R: Read + Send,
     W: Write + Send,
->(rt: &A, words: &'a [S], files: &mut F, input: &mut R, out: &mut W) -> Result<u8, CommandFault<'a>>
+    E: Write,
+>(
+    rt: &A,
+    words: &'a [S],
+    files: &mut F,
+    input: &mut R,
+    out: &mut W,
+    err: &mut E,
+) -> Result<u8, CommandFault<'a>>
     ensures done { IfOk result (λ status. IsDone (map S.text words.entry.now) (F.held files.old) (R.remaining input.old) status (W.contents out.old) (W.contents out.new)) }
+    ensures silent { IfOk result (λ status. status ≢ BROKEN → Keeps (E.contents err.old) (E.contents err.new)) }
     ensures input { ¬ WantInput (map S.text words.entry.now) → input.new ≡ input.old }
     ensures quiet { IfErr result (λ fault. fault ≢ CommandFault.Unwritable → IfSome (asked (map S.text words.entry.now)) (λ command. ¬ IsWatch command) → out.new ≡ out.old) }
     ensures whole { IfErr result (λ fault. fault ≢ CommandFault.Unwritable → IfSome (asked (map S.text words.entry.now)) (λ command. WritesWhole command (F.held files.old) (W.contents out.old) (W.contents out.new))) }
 {
     match read_words(rt.alloc(), words) {
-        Ok(command) => run_command(rt, command, files, input, out),
+        Ok(command) => run_command(rt, command, files, input, out, err),
         Err(error) => Err(CommandFault::of_words(error)),
     }
 }
@@ -114,16 +128,19 @@ fn run_command<
     F: Files,
     R: Read + Send,
     W: Write + Send,
+    E: Write,
 >(
     rt: &A,
     command: Command<'a>,
     files: &mut F,
     input: &mut R,
     out: &mut W,
+    err: &mut E,
 ) -> Result<u8, CommandFault<'a>>
     requires shards { HasShards command }
     requires traces { HasTraces command }
     ensures done { IfOk result (λ status. IsCarriedOut (asked_of command.entry) (F.held files.old) (R.remaining input.old) status (W.contents out.old) (W.contents out.new)) }
+    ensures silent { IfOk result (λ status. status ≢ BROKEN → Keeps (E.contents err.old) (E.contents err.new)) }
     ensures input { asked_of command.entry ≢ Safe None → input.new ≡ input.old }
     ensures quiet { IfErr result (λ fault. fault ≢ CommandFault.Unwritable → ¬ IsWatch (asked_of command.entry) → out.new ≡ out.old) }
     ensures whole { IfErr result (λ fault. fault ≢ CommandFault.Unwritable → WritesWhole (asked_of command.entry) (F.held files.old) (W.contents out.old) (W.contents out.new)) }
@@ -135,7 +152,7 @@ fn run_command<
         Command::Watch(asked) => follow(rt, asked, files, out),
         Command::Show(asked) => draw(rt, asked, files, out),
         Command::Lint(asked) => look(rt, asked, files, out),
-        Command::Keys(asked) => name_keys(rt, asked, files, out),
+        Command::Keys(asked) => name_keys(rt, asked, files, out, err),
         Command::Tower(name) => list(rt, name, files, out),
         Command::Explain(code) => explain(rt.alloc(), *code, out),
         Command::Version => print(VERSION, out),
@@ -144,15 +161,17 @@ fn run_command<
     }
 }
 
-/// Writes the tower file of the registers that traces name.
-fn name_keys<'a, A: AllocGlobal, F: Files, W: Write>(
+/// Writes the tower file of the registers that traces name, and a line for each trace that is named in part alone.
+fn name_keys<'a, A: AllocGlobal, F: Files, W: Write, E: Write>(
     rt: &A,
     asked: &Keys<'a>,
     files: &mut F,
     out: &mut W,
+    err: &mut E,
 ) -> Result<u8, CommandFault<'a>>
     ensures naming { IfOk result (λ status. (traces : List (List ℕ)) → AreHeld (F.held files.old) (map (λ name. name.now) asked.entry.now.traces.items) traces
         → IsNaming (asked_keys asked.entry.now) traces status (W.contents out.old) (W.contents out.new)) }
+    ensures silent { IfOk result (λ status. status ≢ BROKEN → Keeps (E.contents err.old) (E.contents err.new)) }
     ensures quiet { IfErr result (λ fault. fault ≢ CommandFault.Unwritable → out.new ≡ out.old) }
 {
     let claim = NameClaim {
@@ -162,9 +181,26 @@ fn name_keys<'a, A: AllocGlobal, F: Files, W: Write>(
     };
     let written = write_names(rt.alloc(), files, &claim, &asked.traces)?;
     match write_bytes(out, &written.file) {
-        Ok(()) => Ok(status_of(!written.whole, false, false, false)),
+        Ok(()) => Ok(status_of_names(rt.alloc(), &asked.traces, &written.faults, err)),
         Err(_) => Err(CommandFault::Unwritable),
     }
+}
+
+/// The status by the first faults of the traces, each of which gets a line.
+fn status_of_names<E: Write>(
+    alloc: Global,
+    traces: &[&str],
+    faults: &[Option<EdnFault>],
+    err: &mut E,
+) -> u8
+    ensures status { result ≡ status_of (list_any is_some faults.now) false false false }
+    ensures silent { result ≢ BROKEN → err.new ≡ err.old }
+{
+    if has_fault(faults) {
+        say_faults(alloc, traces, faults, err);
+        return BROKEN;
+    }
+    status_of(false, false, false, false)
 }
 
 /// Reads a tower file and writes the lines of its registers.

@@ -4,8 +4,9 @@ use Rattle.std.specs.Prelude.{fold}
 use Rattle.std.specs.Str.{bytes_eq}
 use Rattle.std.proofs.lemmas.Cmp.{nat_list_eq_equiv}
 use Rattle.std.proofs.lemmas.Slice.Eq.{bytes_eq-Decides}
+use Rattle.edn_reader.specs.declared.fault.EdnFault.{EdnFault}
 use Rattle.jepsen_form.specs.Mention.{MentionModel}
-use Rattle.keys.specs.Named.{AreEachOnce, AreNamesAfter, NamedModel, NamesModel, has_name, next, no_names, none, with_mention, with_name, with_said}
+use Rattle.keys.specs.Named.{AreEachOnce, AreNamesAfter, NamedModel, NamesModel, has_name, next, no_names, none, registers_named, registers_or, with_mention, with_name, with_said}
 
 twice : (first rest : Bool) → (first || rest) ≡ (first || (first || rest))
 twice true rest = refl
@@ -85,11 +86,18 @@ after_mentions : (named : NamesModel) (mentions : List (Option MentionModel)) �
 after_mentions named [] once = once
 after_mentions named (mention ∷ mentions) once = after_mentions (with_mention named mention) mentions (after_mention named mention once)
 
-after_texts : {before after : NamesModel} {texts : List (List ℕ)} {whole : Bool} → AreNamesAfter before texts whole after → AreEachOnce before.registers → AreEachOnce after.registers
+after_texts : {before after : NamesModel} {texts : List (List ℕ)} {faults : List (Option EdnFault)} → AreNamesAfter before texts faults after → AreEachOnce before.registers → AreEachOnce after.registers
 after_texts none once = once
 after_texts {before} (next now more) once =
     after_texts more (subst (λ (named : NamesModel). AreEachOnce named.registers) (sym now.after_is) (after_mentions before now.mentions once))
 
--- what traces name has each name once
-pub each_once : (texts : List (List ℕ)) (whole : Bool) (named : NamesModel) → AreNamesAfter no_names texts whole named → AreEachOnce named.registers
-each_once texts whole named are = after_texts are tt
+of_registers : (registers : List NamedModel) (writer : Option ℤ) → AreEachOnce registers → AreEachOnce (registers_or registers writer)
+of_registers [] writer once = (refl, tt)
+of_registers (only ∷ []) writer once = (refl, tt)
+of_registers (first ∷ second ∷ registers) writer once = once
+
+-- what traces name has each name once, and so has the tower of it
+pub each_once : (texts : List (List ℕ)) (faults : List (Option EdnFault)) (named : NamesModel) → AreNamesAfter no_names texts faults named → AreEachOnce named.registers × AreEachOnce (registers_named named)
+each_once texts faults named are =
+    let once : AreEachOnce named.registers = after_texts are tt in
+    (once, of_registers named.registers named.first_writer once)

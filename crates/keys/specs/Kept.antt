@@ -12,6 +12,10 @@ kept_name entry = record { name = entry.0.items; writer = entry.1 }
 abbrev pub names_with : List (Vec ℕ Global × Option ℤ) → Option ℤ → NamesModel
 names_with entries writer = record { registers = map kept_name entries; first_writer = writer }
 
+-- one register alone, of this name, which this process writes first
+abbrev pub only_name : List ℕ → Option ℤ → List NamedModel
+only_name name writer = record { name = name; writer = writer } ∷ []
+
 -- whether a mention by this name and this optional writer says nothing new: the first of these registers with the name has
 -- a writer, or no writer is given
 abbrev pub says_nothing_new : List NamedModel → List ℕ → Option ℤ → Bool

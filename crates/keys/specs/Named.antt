@@ -1,5 +1,5 @@
 -- The registers that the elements of traces name.
-use Rattle.std.specs.Prelude.{◌≡◌, ◌&&◌, ◌||◌, ℕ, ℤ, Bool, true, false, List, [], ◌∷◌, Option, Some, None, fold, codes, if◌then◌else◌}
+use Rattle.std.specs.Prelude.{◌≡◌, ◌||◌, ℕ, ℤ, Bool, false, List, [], ◌∷◌, Option, Some, None, fold, codes, if◌then◌else◌}
 use Rattle.std.specs.List.{AllZip}
 use Rattle.std.specs.Option.{option_or}
 use Rattle.std.specs.Str.{bytes_eq}
@@ -53,25 +53,25 @@ with_mention named (Some mention) = record {
   first_writer = option_or named.first_writer mention.writer;
 }
 
--- the elements of a text, which is whole; or those before its first fault
-abbrev pub AreElementsOf : List ℕ → Bool → List ElementModel → Type 0
-AreElementsOf text true pieces = IsText text pieces
-AreElementsOf text false pieces = (fault : EdnFault) × FaultOf text fault × AreElementsBefore text pieces
+-- the elements of a text, which has no fault; or those before this first fault of it
+abbrev pub AreElementsOf : List ℕ → Option EdnFault → List ElementModel → Type 0
+AreElementsOf text None pieces = IsText text pieces
+AreElementsOf text (Some fault) pieces = FaultOf text fault × AreElementsBefore text pieces
 
--- what is named after a text, by what its elements say in turn
-pub record NamesAfter (before : NamesModel) (text : List ℕ) (whole : Bool) (after : NamesModel) : Type 0 where
+-- what is named after a text, which has this first fault or none, by what its elements say in turn
+pub record NamesAfter (before : NamesModel) (text : List ℕ) (fault : Option EdnFault) (after : NamesModel) : Type 0 where
   pub pieces : List ElementModel
-  pub elements : AreElementsOf text whole pieces
+  pub elements : AreElementsOf text fault pieces
   pub mentions : List (Option MentionModel)
   pub each : AllZip IsMention pieces mentions
   pub after_is : after ≡ fold with_mention before mentions
 
--- what is named after these texts, in turn, and whether all of them are whole
-pub data AreNamesAfter : NamesModel → List (List ℕ) → Bool → NamesModel → Type 0 where
-  none : {named : NamesModel} → AreNamesAfter named [] true named
-  next : {before between after : NamesModel} {text : List ℕ} {texts : List (List ℕ)} {whole all : Bool}
-      → NamesAfter before text whole between → AreNamesAfter between texts all after
-      → AreNamesAfter before (text ∷ texts) (whole && all) after
+-- what is named after these texts, in turn, each of which has this first fault or none
+pub data AreNamesAfter : NamesModel → List (List ℕ) → List (Option EdnFault) → NamesModel → Type 0 where
+  none : {named : NamesModel} → AreNamesAfter named [] [] named
+  next : {before between after : NamesModel} {text : List ℕ} {texts : List (List ℕ)} {fault : Option EdnFault} {faults : List (Option EdnFault)}
+      → NamesAfter before text fault between → AreNamesAfter between texts faults after
+      → AreNamesAfter before (text ∷ texts) (fault ∷ faults) after
 
 -- the registers of a tower of these names, where this process writes first: the one register `r` where there is no name,
 -- and where there is one alone, all values are of that one

@@ -1,6 +1,6 @@
 //! The tower file of what traces name.
 
-ghost use Rattle.std.specs.Prelude.{◌≡◌, ◌++◌, ◌∷◌, [], Some, IfOk, OnOk, codes, flat_map, string_bytes};
+ghost use Rattle.std.specs.Prelude.{◌≡◌, ◌++◌, Some, IfOk, OnOk, codes, flat_map, string_bytes};
 ghost use Rattle.std.specs.List.{slice_get};
 ghost use Rattle.keys.specs.File.{file_text, initial_text, kind_keyword, register_entry, writers_text};
 ghost use Rattle.keys.specs.Named.{NamedModel, registers_named};
@@ -28,13 +28,12 @@ pub fn push_tower(
     ensures { OnOk result (text.new.items ≡ text.old.items ++ file_text claim.now named.now) }
 {
     text.extend_from_slice(b"{:levels [{:name keys :registers [\n")?;
-    push_lines(alloc, text, claim, named)?;
+    push_registers(alloc, text, claim, named)?;
     text.extend_from_slice(b"]}]}\n")
 }
 
-/// Adds the lines of the registers: that of `r` where none has a name, and where one alone has, that with the process which
-/// writes first at all.
-fn push_lines(
+/// Adds the lines of the registers.
+fn push_registers(
     alloc: Global,
     text: &mut Vec<u8>,
     claim: &NameClaim,
@@ -42,40 +41,7 @@ fn push_lines(
 ) -> Result<(), AllocError>
     ensures { OnOk result (text.new.items ≡ text.old.items ++ flat_map (register_entry claim.now) (registers_named named.now)) }
 {
-    let many = named.len();
-    if many == 0 {
-        push_register(alloc, text, claim, b"r", named.first_writer())
-    } else if many == 1 {
-        push_only(alloc, text, claim, named)
-    } else {
-        push_registers(alloc, text, claim, named)
-    }
-}
-
-/// Adds the line of the one register that has a name.
-fn push_only(
-    alloc: Global,
-    text: &mut Vec<u8>,
-    claim: &NameClaim,
-    named: &TraceNames,
-) -> Result<(), AllocError>
-    ensures { (only : NamedModel) → named.now.registers ≡ only ∷ [] → OnOk result (text.new.items ≡ text.old.items ++ register_entry claim.now (record { name = only.name; writer = named.now.first_writer })) }
-{
-    match named.get(0) {
-        Some((name, _)) => push_register(alloc, text, claim, name, named.first_writer()),
-        None => Ok(()),
-    }
-}
-
-fn push_registers(
-    alloc: Global,
-    text: &mut Vec<u8>,
-    claim: &NameClaim,
-    named: &TraceNames,
-) -> Result<(), AllocError>
-    ensures { OnOk result (text.new.items ≡ text.old.items ++ flat_map (register_entry claim.now) named.now.registers) }
-{
-    for number in 0..named.len() {
+    for number in 0..named.registers() {
         push_entry(alloc, text, claim, named, number)?;
     }
     Ok(())
@@ -89,9 +55,9 @@ fn push_entry(
     named: &TraceNames,
     number: usize,
 ) -> Result<(), AllocError>
-    ensures { (entry : NamedModel) → slice_get named.now.registers number ≡ Some entry → OnOk result (text.new.items ≡ text.old.items ++ register_entry claim.now entry) }
+    ensures { (entry : NamedModel) → slice_get (registers_named named.now) number ≡ Some entry → OnOk result (text.new.items ≡ text.old.items ++ register_entry claim.now entry) }
 {
-    match named.get(number) {
+    match named.register(number) {
         Some((name, writer)) => push_register(alloc, text, claim, name, writer),
         None => Ok(()),
     }

@@ -5,8 +5,8 @@ ghost use Rattle.std.specs.Option.{option_map};
 ghost use Rattle.std.specs.List.{slice_get};
 ghost use Rattle.edn_reader.specs.Lent.{piece_of};
 ghost use Rattle.jepsen_form.specs.Mention.{IsMention, MentionModel, mention_seen};
-ghost use Rattle.keys.specs.Kept.{says_nothing_new};
-ghost use Rattle.keys.specs.Named.{NamesAfter, no_names, with_mention, with_name};
+ghost use Rattle.keys.specs.Kept.{only_name, says_nothing_new};
+ghost use Rattle.keys.specs.Named.{NamesAfter, no_names, registers_named, with_mention, with_name};
 
 use edn_reader::{EdnFault, Element, Reader};
 use indexmap::IndexMap;
@@ -43,17 +43,17 @@ impl TraceNames {
         }
     }
 
-    /// Adds what the elements of a trace say, up to its end or its first fault, and answers whether it has none.
-    pub fn add_trace(&mut self, text: &[u8]) -> Result<bool, AllocError>
-        ensures { IfOk result (λ whole. NamesAfter self.old text.now whole self.new) }
+    /// Adds what the elements of a trace say, up to its end or its first fault, and answers that fault, if it has one.
+    pub fn add_trace(&mut self, text: &[u8]) -> Result<Option<EdnFault>, AllocError>
+        ensures { IfOk result (λ fault. NamesAfter self.old text.now fault self.new) }
     {
         let mut reader = Reader::new(self.alloc, text);
         loop {
             match reader.next() {
                 Ok(Some(element)) => self.add_element(&element)?,
-                Ok(None) => return Ok(true),
+                Ok(None) => return Ok(None),
                 Err(EdnFault::Memory(_)) => return Err(AllocError),
-                Err(_) => return Ok(false),
+                Err(fault) => return Ok(Some(fault)),
             }
         }
     }
@@ -102,27 +102,45 @@ impl TraceNames {
         }
     }
 
-    /// How many registers have a name.
-    pub fn len(&self) -> usize
-        ensures { result ≡ length self.now.registers }
+    /// How many registers the tower of what is named has, at least one.
+    pub fn registers(&self) -> usize
+        ensures { result ≡ length (registers_named self.now) }
     {
-        self.by_name.len()
+        self.by_name.len().max(1)
     }
 
-    /// A register by its number, from 0, with the process that writes it first.
-    pub fn get(&self, number: usize) -> Option<(&[u8], Option<i64>)>
+    /// A register of that tower by its number, from 0: its name, and the process that writes it first.
+    pub fn register(&self, number: usize) -> Option<(&[u8], Option<i64>)>
+        ensures { option_map (λ named. record { name = named.0.now; writer = named.1 }) result ≡ slice_get (registers_named self.now) number }
+    {
+        match self.by_name.len() {
+            0 => self.only(number, b"r"),
+            1 => match self.named(0) {
+                Some((name, _)) => self.only(number, name),
+                None => None,
+            },
+            _ => self.named(number),
+        }
+    }
+
+    /// The one register, by number 0, where it has this name.
+    fn only<'a>(&self, number: usize, name: &'a [u8]) -> Option<(&'a [u8], Option<i64>)>
+        ensures { option_map (λ named. record { name = named.0.now; writer = named.1 }) result ≡ slice_get (only_name name.entry.now self.now.first_writer) number }
+    {
+        if number == 0 {
+            Some((name, self.first_writer))
+        } else {
+            None
+        }
+    }
+
+    /// A register that has a name, by its number, with the process that writes it first.
+    fn named(&self, number: usize) -> Option<(&[u8], Option<i64>)>
         ensures { option_map (λ named. record { name = named.0.now; writer = named.1 }) result ≡ slice_get self.now.registers number }
     {
         match self.by_name.get_index(number) {
             Some((name, writer)) => Some((name.as_slice(), *writer)),
             None => None,
         }
-    }
-
-    /// The process that writes first, with a name or without.
-    pub fn first_writer(&self) -> Option<i64>
-        ensures { result ≡ self.now.first_writer }
-    {
-        self.first_writer
     }
 }
