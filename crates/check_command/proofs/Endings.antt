@@ -9,7 +9,7 @@ use Rattle.shards.specs.Closing.{ClosedShard}
 use Rattle.logs.specs.declared.log.Log.{Log}
 use Rattle.feeders.specs.Readers.{AreReadOf}
 use Rattle.logs.specs.Run.{IsRun}
-use Rattle.words.specs.Words.{AskedCheck, has_records}
+use Rattle.words.specs.Words.{AskedCheck, names_lines}
 use Rattle.check_command.specs.declared.one_register.Audit.{Audit}
 use Rattle.check_command.specs.Audit.{IsAudit}
 use Rattle.command_parts.specs.Status.{status_of}
@@ -24,7 +24,7 @@ pub checked : (asked : AskedCheck) (tower : TowerModel) (order : Option RegId) (
     → IsNamed tower asked.order order
     → ((known : List (List ℕ)) → AreTheir known → lefts ≡ map (λ text. Some text) known)
     → ((read : List (List ℕ)) × AreReadOf lefts logs read × IsRun tower asked.moments asked.shards read closed logs)
-    → AreKeptIf (has_records asked.form) lefts logs kept
+    → AreKeptIf (names_lines asked.form) lefts logs kept
     → ((text : List ℕ) × IsPrinted asked status tower closed logs order kept text × Appends old new text)
     → IsStatus tower closed logs asked.demand status
     → (file : List ℕ) → IsTowerOf file tower → (traces : List (List ℕ)) → AreTheir traces → IsChecked asked file traces status old new
@@ -40,7 +40,7 @@ checked asked tower order closed logs lefts AreTheir kept status old new named o
       are_read = subst (λ (l : List (Option (List ℕ))). AreReadOf l logs run.0) (opened traces are) run.1;
       run = run.2;
       kept = kept;
-      are_kept = subst (λ (l : List (Option (List ℕ))). AreKeptIf (has_records asked.form) l logs kept) (opened traces are) are_kept;
+      are_kept = subst (λ (l : List (Option (List ℕ))). AreKeptIf (names_lines asked.form) l logs kept) (opened traces are) are_kept;
       text = report.0;
       printed = report.1;
       written = report.2;

@@ -13,15 +13,18 @@ use Rattle.report.specs.Summary.{IsSummary}
 use Rattle.report.specs.declared.fault.ReportFault.{ReportFault}
 use Rattle.report.specs.declared.few.Least.{Least}
 use Rattle.report.specs.declared.fault.ReportFault.TheVariants as reports
+use Rattle.ci_forms.specs.Ci.{IsTextForCi}
+use Rattle.ci_forms.specs.declared.facts.CiServer.{CiServer}
+use Rattle.ci_forms.specs.declared.facts.CiServer.TheVariants as servers
 use Rattle.records.specs.declared.line.Notation.{Notation}
 use Rattle.records.specs.declared.line.Notation.TheVariants as notations
 use Rattle.records.specs.Run.{IsTextOfRecords, RunNames}
 use Rattle.words.specs.declared.check.ReportForm.{ReportForm}
 use Rattle.words.specs.declared.demand.Demand.{Demand}
-use Rattle.words.specs.declared.check.ReportForm.TheVariants.{Report, Summary, Json, Edn}
+use Rattle.words.specs.declared.check.ReportForm.TheVariants.{Report, Summary, Json, Edn, GitHub, Junit}
 use Rattle.jepsen_form.specs.declared.item.MomentField.{MomentField}
 use Rattle.jepsen_form.specs.declared.item.MomentField.TheVariants.{Index, Time}
-use Rattle.words.specs.Words.{AskedCheck, file_of, has_records}
+use Rattle.words.specs.Words.{AskedCheck, file_of, names_lines}
 use Rattle.command_parts.specs.declared.fault.CommandFault.{CommandFault}
 use Rattle.command_parts.specs.declared.fault.CommandFault.TheVariants.{Memory, Unwritable}
 use Rattle.command_parts.specs.Kept.{AreKeptIf}
@@ -47,13 +50,19 @@ abbrev pub ArePrinted : Notation → AskedCheck → ℕ → TowerModel → List 
 ArePrinted notation asked status tower closed logs order kept text =
     IsTextOfRecords notation (record_names asked) asked.only_failing status tower closed logs order kept text
 
--- the text is what is printed of a run in this form: the report, with the order that is asked for, the summary, or the
--- records
+-- the text is what this CI server reads of a run, with the lines of elements in the texts that were kept of the traces
+abbrev pub IsPrintedForCi : CiServer → AskedCheck → TowerModel → List ClosedShard → List Log → List (List ℕ) → List ℕ → Type 0
+IsPrintedForCi server asked tower closed logs kept text = IsTextForCi server asked.traces (least_asked asked.demand) tower closed logs kept text
+
+-- the text is what is printed of a run in this form: the report, with the order that is asked for, the summary, the
+-- records, or what a CI server reads
 abbrev pub IsPrintedIn : ReportForm → AskedCheck → ℕ → TowerModel → List ClosedShard → List Log → Option RegId → List (List ℕ) → List ℕ → Type 0
 IsPrintedIn Report asked status tower closed logs order kept text = IsReport tower closed logs order text
 IsPrintedIn Summary asked status tower closed logs order kept text = IsSummary tower (least_asked asked.demand) closed logs text
 IsPrintedIn Json asked status tower closed logs order kept text = ArePrinted notations.Json asked status tower closed logs order kept text
 IsPrintedIn Edn asked status tower closed logs order kept text = ArePrinted notations.Edn asked status tower closed logs order kept text
+IsPrintedIn GitHub asked status tower closed logs order kept text = IsPrintedForCi servers.GitHub asked tower closed logs kept text
+IsPrintedIn Junit asked status tower closed logs order kept text = IsPrintedForCi servers.Junit asked tower closed logs kept text
 
 -- the text is what `check` prints of a run with this status
 abbrev pub IsPrinted : AskedCheck → ℕ → TowerModel → List ClosedShard → List Log → Option RegId → List (List ℕ) → List ℕ → Type 0
@@ -77,7 +86,7 @@ pub record IsChecked (asked : AskedCheck) (file : List ℕ) (traces : List (List
   pub are_read : AreReadOf (map (λ trace. Some trace) traces) logs read
   pub run : IsRun tower asked.moments asked.shards read closed logs
   pub kept : List (List ℕ)
-  pub are_kept : AreKeptIf (has_records asked.form) (map (λ trace. Some trace) traces) logs kept
+  pub are_kept : AreKeptIf (names_lines asked.form) (map (λ trace. Some trace) traces) logs kept
   pub text : List ℕ
   pub printed : IsPrinted asked status tower closed logs order kept text
   pub written : Appends old new text

@@ -5,10 +5,11 @@ ghost use Rattle.std.specs.Io.KnownBytes.{Appends};
 ghost use Rattle.report.specs.Finding.{IsOfTower};
 ghost use Rattle.words.specs.Words.{asked_check, asked_tower};
 ghost use Rattle.records.specs.Run.{names_of};
-ghost use Rattle.check_command.specs.Checked.{ArePrinted, IsChecked, IsPrintedIn, least_asked, moment_word, record_names, unreported};
+ghost use Rattle.check_command.specs.Checked.{ArePrinted, IsChecked, IsPrintedForCi, IsPrintedIn, least_asked, moment_word, record_names, unreported};
 ghost use Rattle.command_parts.specs.Files.{AreHeld};
 ghost use Rattle.command_parts.specs.Tower.{OfTower};
 
+use ci_forms::{CiForm, CiServer, write_for_ci};
 use command_parts::{CommandFault, Files, Job, Judged, OpenedRun, judge, open_run, status_after};
 use intervals::RegId;
 use jepsen_form::MomentField;
@@ -55,7 +56,7 @@ pub fn check<'a, A: AllocGlobal + Threads + Wait + Sync, F: Files, W: Write>(
         moments: asked.moments,
         shards: asked.shards,
     };
-    let judged = match judge(&job, asked.form.has_records(), readers) {
+    let judged = match judge(&job, asked.form.names_lines(), readers) {
         Ok(judged) => judged,
         Err(fault) => return Err(CommandFault::of_run(fault)),
     };
@@ -99,7 +100,7 @@ struct Outcome<'f, 'x> {
     order: Option<RegId>,
 }
 
-/// Writes what is asked for of a run: the report, the summary or the records.
+/// Writes what is asked for of a run: the report, the summary, the records, or what a CI server reads.
 fn print<A: AllocGlobal + Threads + Wait + Sync, W: Write>(
     rt: &A,
     form: ReportForm,
@@ -119,6 +120,8 @@ fn print<A: AllocGlobal + Threads + Wait + Sync, W: Write>(
         ReportForm::Summary => summary(alloc, outcome.tower, run, least_asked(asked.demand), out),
         ReportForm::Json => print_records(alloc, Notation::Json, asked, outcome, out),
         ReportForm::Edn => print_records(alloc, Notation::Edn, asked, outcome, out),
+        ReportForm::GitHub => print_for_ci(alloc, CiServer::GitHub, asked, outcome, out),
+        ReportForm::Junit => print_for_ci(alloc, CiServer::Junit, asked, outcome, out),
     }
 }
 
@@ -147,6 +150,35 @@ fn print_records<W: Write>(
     let form = form_of(asked, notation, outcome);
     let judged = outcome.judged;
     write_records(alloc, &form, outcome.tower, &judged.run, &judged.texts, out)
+}
+
+/// Writes what a CI server reads of a run.
+fn print_for_ci<W: Write>(
+    alloc: Global,
+    server: CiServer,
+    asked: &Check<'_>,
+    outcome: &Outcome,
+    out: &mut W,
+) -> Result<(), ReportFault>
+    requires of_tower { IsOfTower outcome.now.tower.now outcome.now.judged.now.run.closed }
+    ensures printed { OnOk result ((text : List ℕ) × IsPrintedForCi server (asked_check asked.now) outcome.now.tower.now outcome.now.judged.now.run.closed outcome.now.judged.now.run.logs.items (map (λ text. text.items) outcome.now.judged.now.texts.items) text × Appends (W.contents out.old) (W.contents out.new) text) }
+    ensures memory { result ≡ Err ReportFault.Memory → out.new ≡ out.old }
+{
+    let form = ci_form_of(asked, server);
+    let judged = outcome.judged;
+    write_for_ci(alloc, &form, outcome.tower, &judged.run, &judged.texts, out)
+}
+
+fn ci_form_of<'b>(asked: &'b Check<'_>, server: CiServer) -> CiForm<'b>
+    ensures server { result.server ≡ server }
+    ensures traces { map (λ name. name.now) result.traces.now ≡ (asked_check asked.now).traces }
+    ensures least { result.least ≡ least_asked asked.now.demand }
+{
+    CiForm {
+        server,
+        traces: &asked.traces,
+        least: least_asked(asked.demand),
+    }
 }
 
 fn form_of<'b>(asked: &'b Check<'_>, notation: Notation, outcome: &Outcome) -> Form<'b>

@@ -257,8 +257,8 @@ static FORM: ArgumentEntry = ArgumentEntry {
     name: "as",
     value_names: &["FORM"],
     defaults: &["text"],
-    words: &["text", "summary", "json", "edn"],
-    help: "What is printed: the report as text, a summary of it, or records in json or edn",
+    words: &["text", "summary", "json", "edn", "github", "junit"],
+    help: "What is printed: the report as text, a summary of it, records in json or edn, or for CI servers github or junit",
     ..OPTION
 };
 

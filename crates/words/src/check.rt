@@ -3,7 +3,7 @@
 ghost use Rattle.std.specs.Prelude.{◌≡◌, ◌<◌, ◌≤◌, IfOk, IfSome, codes, length, map};
 ghost use Rattle.std.specs.Option.{option_map};
 ghost use Rattle.clap.specs.Words.{found_of, rows_of};
-ghost use Rattle.words.specs.Words.{asked_check, check_by, count_in, form_in, has_records, moments_in, only_by, only_in, said_in, shards_in, traces_in};
+ghost use Rattle.words.specs.Words.{asked_check, check_by, count_in, form_in, has_records, moments_in, names_lines, only_by, only_in, said_in, shards_in, traces_in};
 
 use crate::demand::{Demand, demand_of};
 use crate::tower::{TowerWord, tower_of};
@@ -22,6 +22,10 @@ pub enum ReportForm {
     Json,
     /// A record a line, in EDN.
     Edn,
+    /// Workflow commands of GitHub Actions.
+    GitHub,
+    /// The XML of JUnit.
+    Junit,
 }
 
 impl ReportForm {
@@ -30,8 +34,19 @@ impl ReportForm {
         ensures { result ≡ has_records self }
     {
         match self {
-            ReportForm::Report | ReportForm::Summary => false,
+            ReportForm::Report | ReportForm::Summary | ReportForm::GitHub | ReportForm::Junit =>
+                false,
             ReportForm::Json | ReportForm::Edn => true,
+        }
+    }
+
+    /// Whether the lines of elements are printed.
+    pub fn names_lines(self) -> bool
+        ensures { result ≡ names_lines self }
+    {
+        match self {
+            ReportForm::Report | ReportForm::Summary => false,
+            ReportForm::Json | ReportForm::Edn | ReportForm::GitHub | ReportForm::Junit => true,
         }
     }
 }
@@ -154,6 +169,10 @@ fn form_in(text: &str) -> Option<ReportForm>
         Some(ReportForm::Json)
     } else if text == "edn" {
         Some(ReportForm::Edn)
+    } else if text == "github" {
+        Some(ReportForm::GitHub)
+    } else if text == "junit" {
+        Some(ReportForm::Junit)
     } else {
         None
     }

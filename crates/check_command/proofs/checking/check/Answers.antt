@@ -1,6 +1,6 @@
 use Rattle.std.proofs.Common.{Bool, Vec, map, refl, subst, ℕ}
 use Rattle.std.specs.declared.alloc.Global.{Global}
-use Rattle.words.specs.Words.{asked_check, asked_tower, has_records}
+use Rattle.words.specs.Words.{asked_check, asked_tower, names_lines}
 use Rattle.command_parts.specs.Files.{AreHeld}
 use Rattle.command_parts.specs.Kept.{AreKeptIf}
 use Rattle.check_command.proofs.Endings.{checked}
@@ -25,7 +25,7 @@ returns-in-Ok-print-clause-checked g c =
     c.in_ok-tower.ensures.named
     (λ known held. c.in_ok-tower.ensures.held known (held_later files files asked.traces.items c.deref.result.now known refl c.deref.ensures.value held))
     c.in-Ok.ensures.run
-    (subst (λ (keeps : Bool). AreKeptIf keeps (map g.F.Reader.Read.remaining opened.readers.items) run.logs.items kept) c.has_records.ensures c.in-Ok.ensures.kept)
+    (subst (λ (keeps : Bool). AreKeptIf keeps (map g.F.Reader.Read.remaining opened.readers.items) run.logs.items kept) c.names_lines.ensures c.in-Ok.ensures.kept)
     c.in-Ok-print.ensures.printed
     c.in-Ok-status_after.ensures)
     c.in_ok-tower.ensures.tower

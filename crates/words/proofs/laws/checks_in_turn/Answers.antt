@@ -1,4 +1,4 @@
-use Rattle.words.proofs.Asking.{any_names, between_traces, each_check, edn_check, failing_check, json_check, plain_check, two_traces, whole_check, whole_records}
+use Rattle.words.proofs.Asking.{any_names, between_traces, ci_check, each_check, edn_check, failing_check, json_check, plain_check, two_traces, whole_check, whole_records}
 use Rattle.words.proofs.laws.checks_in_turn.Goals as goal
 
 pub returns-clause-plain : goal.returns-clause-plain
@@ -24,6 +24,9 @@ returns-clause-json c = json_check
 
 pub returns-clause-edn : goal.returns-clause-edn
 returns-clause-edn c = edn_check
+
+pub returns-clause-for_ci : goal.returns-clause-for_ci
+returns-clause-for_ci c = ci_check
 
 pub returns-clause-failing : goal.returns-clause-failing
 returns-clause-failing c = failing_check

@@ -1,0 +1,6 @@
+-- words of the public clauses
+pub mod Facts
+pub mod GitHub
+pub mod Xml
+pub mod Junit
+pub mod Ci
