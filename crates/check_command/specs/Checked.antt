@@ -13,6 +13,7 @@ use Rattle.report.specs.Summary.{IsSummary}
 use Rattle.report.specs.declared.fault.ReportFault.{ReportFault}
 use Rattle.report.specs.declared.few.Least.{Least}
 use Rattle.report.specs.declared.fault.ReportFault.TheVariants as reports
+use Rattle.excerpt.specs.Excerpt.{IsTextOfExcerpt}
 use Rattle.ci_forms.specs.Ci.{IsTextForCi}
 use Rattle.ci_forms.specs.declared.facts.CiServer.{CiServer}
 use Rattle.ci_forms.specs.declared.facts.CiServer.TheVariants as servers
@@ -21,7 +22,7 @@ use Rattle.records.specs.declared.line.Notation.TheVariants as notations
 use Rattle.records.specs.Run.{IsTextOfRecords, RunNames}
 use Rattle.words.specs.declared.check.ReportForm.{ReportForm}
 use Rattle.words.specs.declared.demand.Demand.{Demand}
-use Rattle.words.specs.declared.check.ReportForm.TheVariants.{Report, Summary, Json, Edn, GitHub, Junit}
+use Rattle.words.specs.declared.check.ReportForm.TheVariants.{Report, Summary, Json, Edn, GitHub, Junit, Trace}
 use Rattle.jepsen_form.specs.declared.item.MomentField.{MomentField}
 use Rattle.jepsen_form.specs.declared.item.MomentField.TheVariants.{Index, Time}
 use Rattle.words.specs.Words.{AskedCheck, file_of, names_lines}
@@ -55,7 +56,7 @@ abbrev pub IsPrintedForCi : CiServer → AskedCheck → TowerModel → List Clos
 IsPrintedForCi server asked tower closed logs kept text = IsTextForCi server asked.traces (least_asked asked.demand) tower closed logs kept text
 
 -- the text is what is printed of a run in this form: the report, with the order that is asked for, the summary, the
--- records, or what a CI server reads
+-- records, what a CI server reads, or the trace of the operations that show how registers fail
 abbrev pub IsPrintedIn : ReportForm → AskedCheck → ℕ → TowerModel → List ClosedShard → List Log → Option RegId → List (List ℕ) → List ℕ → Type 0
 IsPrintedIn Report asked status tower closed logs order kept text = IsReport tower closed logs order text
 IsPrintedIn Summary asked status tower closed logs order kept text = IsSummary tower (least_asked asked.demand) closed logs text
@@ -63,6 +64,7 @@ IsPrintedIn Json asked status tower closed logs order kept text = ArePrinted not
 IsPrintedIn Edn asked status tower closed logs order kept text = ArePrinted notations.Edn asked status tower closed logs order kept text
 IsPrintedIn GitHub asked status tower closed logs order kept text = IsPrintedForCi servers.GitHub asked tower closed logs kept text
 IsPrintedIn Junit asked status tower closed logs order kept text = IsPrintedForCi servers.Junit asked tower closed logs kept text
+IsPrintedIn Trace asked status tower closed logs order kept text = IsTextOfExcerpt tower asked.moments closed text
 
 -- the text is what `check` prints of a run with this status
 abbrev pub IsPrinted : AskedCheck → ℕ → TowerModel → List ClosedShard → List Log → Option RegId → List (List ℕ) → List ℕ → Type 0

@@ -1,9 +1,10 @@
 //! The command `check`.
 
-ghost use Rattle.std.specs.Prelude.{◌≡◌, ◌≢◌, ◌≤◌, ◌<◌, ℕ, List, Err, IfOk, IfErr, IfSome, OnOk, length, map};
+ghost use Rattle.std.specs.Prelude.{◌≡◌, ◌≢◌, ◌≤◌, ◌<◌, ℕ, List, Err, IfOk, IfErr, IfSome, IsOk, OnOk, length, map};
 ghost use Rattle.std.specs.Io.KnownBytes.{Appends};
 ghost use Rattle.report.specs.Finding.{IsOfTower};
 ghost use Rattle.words.specs.Words.{asked_check, asked_tower};
+ghost use Rattle.excerpt.specs.Excerpt.{IsTextOfExcerpt};
 ghost use Rattle.records.specs.Run.{names_of};
 ghost use Rattle.check_command.specs.Checked.{ArePrinted, IsChecked, IsPrintedForCi, IsPrintedIn, least_asked, moment_word, record_names, unreported};
 ghost use Rattle.command_parts.specs.Files.{AreHeld};
@@ -11,6 +12,7 @@ ghost use Rattle.command_parts.specs.Tower.{OfTower};
 
 use ci_forms::{CiForm, CiServer, write_for_ci};
 use command_parts::{CommandFault, Files, Job, Judged, OpenedRun, judge, open_run, status_after};
+use excerpt::{ExcerptFault, write_excerpt};
 use intervals::RegId;
 use jepsen_form::MomentField;
 use records::{Form, Notation, write_records};
@@ -69,13 +71,20 @@ pub fn check<'a, A: AllocGlobal + Threads + Wait + Sync, F: Files, W: Write>(
         status,
         order: register,
     };
-    match print(rt, asked.form, asked, &outcome, out) {
-        Ok(()) => {
-            // The command is over: to free the run, node by node, would cost a tenth of its time.
-            forget(judged);
-            forget(pages);
-            Ok(status)
-        }
+    print(rt, asked.form, asked, &outcome, out)?;
+    // The command is over: to free the run, node by node, would cost a tenth of its time.
+    forget(judged);
+    forget(pages);
+    Ok(status)
+}
+
+/// What comes of a report that was written, or was not.
+fn reported<'a>(written: Result<(), ReportFault>) -> Result<(), CommandFault<'a>>
+    ensures written { OnOk result (IsOk written.entry) }
+    ensures fault { IfErr result (λ fault. IfErr written.entry (λ of. fault ≡ unreported of)) }
+{
+    match written {
+        Ok(()) => Ok(()),
         Err(fault) => Err(unreported(fault)),
     }
 }
@@ -100,28 +109,61 @@ struct Outcome<'f, 'x> {
     order: Option<RegId>,
 }
 
-/// Writes what is asked for of a run: the report, the summary, the records, or what a CI server reads.
-fn print<A: AllocGlobal + Threads + Wait + Sync, W: Write>(
+/// Writes what is asked for of a run: the report, the summary, the records, what a CI server reads, or the small trace.
+fn print<'a, A: AllocGlobal + Threads + Wait + Sync, W: Write>(
     rt: &A,
     form: ReportForm,
-    asked: &Check<'_>,
+    asked: &Check<'a>,
     outcome: &Outcome,
     out: &mut W,
-) -> Result<(), ReportFault>
+) -> Result<(), CommandFault<'a>>
     requires of_tower { IsOfTower outcome.now.tower.now outcome.now.judged.now.run.closed }
     requires order { IfSome outcome.now.order (λ id. id.0 < length outcome.now.tower.now.registers) }
     ensures printed { OnOk result ((text : List ℕ) × IsPrintedIn form (asked_check asked.now) outcome.now.status outcome.now.tower.now outcome.now.judged.now.run.closed outcome.now.judged.now.run.logs.items outcome.now.order (map (λ text. text.items) outcome.now.judged.now.texts.items) text × Appends (W.contents out.old) (W.contents out.new) text) }
-    ensures memory { result ≡ Err ReportFault.Memory → out.new ≡ out.old }
+    ensures quiet { IfErr result (λ fault. fault ≢ CommandFault.Unwritable → out.new ≡ out.old) }
 {
     let alloc = rt.alloc();
     let run = &outcome.judged.run;
     match form {
-        ReportForm::Report => report(rt, alloc, outcome.tower, run, outcome.order, out),
-        ReportForm::Summary => summary(alloc, outcome.tower, run, least_asked(asked.demand), out),
-        ReportForm::Json => print_records(alloc, Notation::Json, asked, outcome, out),
-        ReportForm::Edn => print_records(alloc, Notation::Edn, asked, outcome, out),
-        ReportForm::GitHub => print_for_ci(alloc, CiServer::GitHub, asked, outcome, out),
-        ReportForm::Junit => print_for_ci(alloc, CiServer::Junit, asked, outcome, out),
+        ReportForm::Report => reported(report(rt, alloc, outcome.tower, run, outcome.order, out)),
+        ReportForm::Summary => reported(summary(
+            alloc,
+            outcome.tower,
+            run,
+            least_asked(asked.demand),
+            out,
+        )),
+        ReportForm::Json => reported(print_records(alloc, Notation::Json, asked, outcome, out)),
+        ReportForm::Edn => reported(print_records(alloc, Notation::Edn, asked, outcome, out)),
+        ReportForm::GitHub => reported(print_for_ci(alloc, CiServer::GitHub, asked, outcome, out)),
+        ReportForm::Junit => reported(print_for_ci(alloc, CiServer::Junit, asked, outcome, out)),
+        ReportForm::Trace => print_excerpt(rt, asked.moments, outcome, out),
+    }
+}
+
+/// Writes the trace of the operations that show how the registers fail.
+fn print_excerpt<'a, A: AllocGlobal + Wait, W: Write>(
+    rt: &A,
+    moments: MomentField,
+    outcome: &Outcome,
+    out: &mut W,
+) -> Result<(), CommandFault<'a>>
+    requires of_tower { IsOfTower outcome.now.tower.now outcome.now.judged.now.run.closed }
+    ensures printed { OnOk result ((text : List ℕ) × IsTextOfExcerpt outcome.now.tower.now moments outcome.now.judged.now.run.closed text × Appends (W.contents out.old) (W.contents out.new) text) }
+    ensures quiet { IfErr result (λ fault. fault ≢ CommandFault.Unwritable → out.new ≡ out.old) }
+{
+    match write_excerpt(
+        rt,
+        rt.alloc(),
+        outcome.tower,
+        &outcome.judged.run,
+        moments,
+        out,
+    ) {
+        Ok(()) => Ok(()),
+        Err(ExcerptFault::Broken(fault)) => Err(CommandFault::of_run(fault)),
+        Err(ExcerptFault::Unlike) => Err(CommandFault::Unlike),
+        Err(ExcerptFault::Unwritable) => Err(CommandFault::Unwritable),
     }
 }
 

@@ -8,7 +8,7 @@ use Rattle.logs.specs.declared.log.Broken.{Broken}
 use Rattle.feeders.specs.declared.fault.RunFault.{RunFault}
 use Rattle.feeders.specs.declared.fault.RunFault.TheVariants as runs
 use Rattle.command_parts.specs.declared.fault.CommandFault.{CommandFault}
-use Rattle.command_parts.specs.declared.fault.CommandFault.TheVariants.{Usage, TooManyTraces, Unreadable, ReadOnce, Tower, Misnamed, Named, NoRegister, NoCode, NoNote, Shard, Memory, Unwritable, Untold}
+use Rattle.command_parts.specs.declared.fault.CommandFault.TheVariants.{Usage, TooManyTraces, Unreadable, ReadOnce, Tower, Misnamed, Named, NoRegister, NoCode, NoNote, Shard, Memory, Unwritable, Unlike, Untold}
 use Rattle.feeders.specs.declared.whole.InputFault.{InputFault}
 use Rattle.feeders.specs.declared.whole.InputFault.TheVariants as inputs
 use Rattle.phrases.specs.Names.{printed}
@@ -35,6 +35,7 @@ complaint_of (NoNote name) = Some (codes "regaudit: '" ++ printed name.now ++ co
 complaint_of (Shard fault) = Some (codes "regaudit: " ++ shard_fault_code fault ++ 10 ∷ [])
 complaint_of Memory = Some (codes "regaudit: out of memory" ++ 10 ∷ [])
 complaint_of Unwritable = Some (codes "regaudit: cannot write" ++ 10 ∷ [])
+complaint_of Unlike = Some (codes "regaudit: the trace that was made does not fail alike" ++ 10 ∷ [])
 complaint_of Untold = Some (codes "regaudit: what was written is not what the registers did" ++ 10 ∷ [])
 
 -- the fault of a command that could not read the input of this name whole, or had no memory for it

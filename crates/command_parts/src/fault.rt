@@ -41,6 +41,8 @@ pub enum CommandFault<'a> {
     Shard(ShardFault),
     Memory,
     Unwritable,
+    /// The trace that was made of what fails does not fail alike.
+    Unlike,
     /// The notices of a watch are not those of the closed journals, or of the logs.
     Untold,
 }
@@ -149,6 +151,9 @@ fn complaint(alloc: Global, fault: &CommandFault<'_>) -> Result<String, AllocErr
         }
         CommandFault::Memory => text.push_str("regaudit: out of memory\n")?,
         CommandFault::Unwritable => text.push_str("regaudit: cannot write\n")?,
+        CommandFault::Unlike => {
+            text.push_str("regaudit: the trace that was made does not fail alike\n")?
+        }
         CommandFault::Untold => {
             text.push_str("regaudit: what was written is not what the registers did\n")?
         }

@@ -70,7 +70,7 @@ fn written_of<'a>(
     faults: Vec<Option<EdnFault>>,
 ) -> Result<WrittenNames, CommandFault<'a>>
     ensures written { IfOk result (λ written. IsWrittenOf claim.now named.now written.file.items written.tower) }
-    ensures faults { IfOk result (λ written. written.faults ≡ faults.entry) }
+    ensures faults { IfOk result (λ written. written.faults ≡ faults) }
     ensures quiet { IfErr result (λ fault. fault ≢ CommandFault.Unwritable) }
 {
     let Ok(file) = file_of(alloc, claim, named) else {

@@ -8,7 +8,7 @@ use Rattle.intervals.specs.declared.claim.Initial.TheVariants.{Known, Unknown}
 use Rattle.intervals.specs.declared.claim.Kind.TheVariants.{Regular, Atomic}
 use Rattle.intervals.specs.declared.claim.Kind.TheVariants as kinds
 use Rattle.intervals.specs.declared.operation.Value.TheVariants.{Nil, Int}
-use Rattle.words.specs.declared.check.ReportForm.TheVariants.{Report, Summary, Json, Edn, GitHub, Junit}
+use Rattle.words.specs.declared.check.ReportForm.TheVariants.{Report, Summary, Json, Edn, GitHub, Junit, Trace}
 use Rattle.words.specs.declared.completion.Shell.TheVariants.{Bash, Zsh, Fish}
 use Rattle.words.specs.declared.lint.LintForm.TheVariants as lint_forms
 use Rattle.words.specs.declared.show.Picture.TheVariants as pictures
@@ -128,6 +128,11 @@ pub ci_check : (program : Text) → (asked (program ∷ codes "check" ∷ codes 
 unfolding clap_on_literals
 ci_check program = (refl, refl)
 
+pub trace_check : (program : Text) → asked (program ∷ codes "check" ∷ codes "--tower=t" ∷ codes "--as=trace" ∷ codes "a" ∷ [])
+    ≡ Some (Check (record { tower = OfFile (codes "t"); shards = 1; moments = Index; order = None; form = Trace; only_failing = false; demand = no_demand; traces = codes "a" ∷ [] }))
+unfolding clap_on_literals
+trace_check program = refl
+
 pub failing_check : (program : Text) → asked (program ∷ codes "check" ∷ codes "--tower=t" ∷ codes "--as=json" ∷ codes "--only" ∷ codes "failing" ∷ codes "a" ∷ [])
     ≡ Some (Check (record { tower = OfFile (codes "t"); shards = 1; moments = Index; order = None; form = Json; only_failing = true; demand = no_demand; traces = codes "a" ∷ [] }))
 unfolding clap_on_literals
@@ -182,8 +187,9 @@ pub no_records : (program : Text) → (asked (program ∷ codes "check" ∷ code
     × (asked (program ∷ codes "check" ∷ codes "--tower=t" ∷ codes "--as=summary" ∷ codes "--only=failing" ∷ codes "a" ∷ []) ≡ None)
     × (asked (program ∷ codes "check" ∷ codes "--tower=t" ∷ codes "--as=github" ∷ codes "--only=failing" ∷ codes "a" ∷ []) ≡ None)
     × (asked (program ∷ codes "check" ∷ codes "--tower=t" ∷ codes "--as=junit" ∷ codes "--only=failing" ∷ codes "a" ∷ []) ≡ None)
+    × (asked (program ∷ codes "check" ∷ codes "--tower=t" ∷ codes "--as=trace" ∷ codes "--only=failing" ∷ codes "a" ∷ []) ≡ None)
 unfolding clap_on_literals
-no_records program = (refl, refl, refl, refl, refl)
+no_records program = (refl, refl, refl, refl, refl, refl)
 
 pub no_shell : (program : Text) → asked (program ∷ codes "completion" ∷ codes "csh" ∷ []) ≡ None
 unfolding clap_on_literals

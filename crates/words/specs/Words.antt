@@ -16,7 +16,7 @@ use Rattle.intervals.specs.declared.claim.Kind.TheVariants.{Safe as SafeKind, Re
 use Rattle.intervals.specs.declared.operation.Value.TheVariants.{Nil, Int}
 use Rattle.words.specs.declared.check.Check.{Check as HeldCheck}
 use Rattle.words.specs.declared.check.ReportForm.{ReportForm}
-use Rattle.words.specs.declared.check.ReportForm.TheVariants.{Report, Summary, Json, Edn, GitHub, Junit}
+use Rattle.words.specs.declared.check.ReportForm.TheVariants.{Report, Summary, Json, Edn, GitHub, Junit, Trace}
 use Rattle.jepsen_form.specs.declared.item.MomentField.{MomentField}
 use Rattle.jepsen_form.specs.declared.item.MomentField.TheVariants.{Index, Time}
 use Rattle.words.specs.declared.demand.Demand.{Demand}
@@ -336,7 +336,7 @@ shards_in text = if is_unsigned_in 1 64 text then Some (digits_value 10 (without
 abbrev pub moments_in : Text → Option MomentField
 moments_in text = if bytes_eq text (codes "index") then Some Index else (if bytes_eq text (codes "time") then Some Time else None)
 
--- the form of a report that a text names: `text`, `summary`, `json`, `edn`, `github` or `junit`
+-- the form of a report that a text names: `text`, `summary`, `json`, `edn`, `github`, `junit` or `trace`
 abbrev pub form_in : Text → Option ReportForm
 form_in text =
     if bytes_eq text (codes "text") then Some Report
@@ -344,7 +344,8 @@ form_in text =
     else (if bytes_eq text (codes "json") then Some Json
     else (if bytes_eq text (codes "edn") then Some Edn
     else (if bytes_eq text (codes "github") then Some GitHub
-    else (if bytes_eq text (codes "junit") then Some Junit else None)))))
+    else (if bytes_eq text (codes "junit") then Some Junit
+    else (if bytes_eq text (codes "trace") then Some Trace else None))))))
 
 -- a report of this form is made of records, in JSON or EDN
 abbrev pub has_records : ReportForm → Bool
@@ -354,6 +355,7 @@ has_records Json = true
 has_records Edn = true
 has_records GitHub = false
 has_records Junit = false
+has_records Trace = false
 
 -- a report of this form names the lines of elements
 abbrev pub names_lines : ReportForm → Bool
@@ -363,6 +365,7 @@ names_lines Json = true
 names_lines Edn = true
 names_lines GitHub = true
 names_lines Junit = true
+names_lines Trace = false
 
 -- the word of `--only`, to a report of this form: `failing`, that only the registers that fail have a record; none
 -- where it is another word, or the report has no records

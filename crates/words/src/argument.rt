@@ -257,8 +257,8 @@ static FORM: ArgumentEntry = ArgumentEntry {
     name: "as",
     value_names: &["FORM"],
     defaults: &["text"],
-    words: &["text", "summary", "json", "edn", "github", "junit"],
-    help: "What is printed: the report as text, a summary of it, records in json or edn, or for CI servers github or junit",
+    words: &["text", "summary", "json", "edn", "github", "junit", "trace"],
+    help: "What is printed: the report as text, a summary of it, records in json or edn, for CI servers github or junit, or the small trace that fails alike",
     ..OPTION
 };
 

@@ -26,6 +26,8 @@ pub enum ReportForm {
     GitHub,
     /// The XML of JUnit.
     Junit,
+    /// The events of the operations that show how registers fail, as a trace.
+    Trace,
 }
 
 impl ReportForm {
@@ -34,8 +36,11 @@ impl ReportForm {
         ensures { result ≡ has_records self }
     {
         match self {
-            ReportForm::Report | ReportForm::Summary | ReportForm::GitHub | ReportForm::Junit =>
-                false,
+            ReportForm::Report
+            | ReportForm::Summary
+            | ReportForm::GitHub
+            | ReportForm::Junit
+            | ReportForm::Trace => false,
             ReportForm::Json | ReportForm::Edn => true,
         }
     }
@@ -45,7 +50,7 @@ impl ReportForm {
         ensures { result ≡ names_lines self }
     {
         match self {
-            ReportForm::Report | ReportForm::Summary => false,
+            ReportForm::Report | ReportForm::Summary | ReportForm::Trace => false,
             ReportForm::Json | ReportForm::Edn | ReportForm::GitHub | ReportForm::Junit => true,
         }
     }
@@ -173,6 +178,8 @@ fn form_in(text: &str) -> Option<ReportForm>
         Some(ReportForm::GitHub)
     } else if text == "junit" {
         Some(ReportForm::Junit)
+    } else if text == "trace" {
+        Some(ReportForm::Trace)
     } else {
         None
     }

@@ -91,7 +91,7 @@ _regaudit() {
             keys:--writers) words='any first' ;;
             check:--shards | watch:--shards) words='1 2 4 8 16 32 64' ;;
             check:--moment | watch:--moment | show:--moment | lint:--moment) words='index time' ;;
-            check:--as) words='text summary json edn github junit' ;;
+            check:--as) words='text summary json edn github junit trace' ;;
             check:--only) words=failing ;;
             watch:--as) words='text json' ;;
             show:--theme) words='auto light dark' ;;
@@ -192,7 +192,7 @@ _regaudit() {
                         '--shards=[over how many shards the registers are spread]:number:(1 2 4 8 16 32 64)' \
                         '--moment=[the field that moments stand under]:field:(index time)' \
                         '--order=[prints an order of this register]:register:_regaudit_registers' \
-                        '--as=[how the report is printed]:form:(text summary json edn github junit)' \
+                        '--as=[how the report is printed]:form:(text summary json edn github junit trace)' \
                         '--only=[which registers have a record]:registers:(failing)' \
                         '--least=[status 4 where fewer operations stand]:number: ' \
                         '--least-each=[status 4 where fewer stand in a register]:number: ' \
@@ -320,7 +320,7 @@ complete -c regaudit -n '__regaudit_is check watch show lint' -l each -x -a 'ato
 complete -c regaudit -n '__regaudit_is check' -l shards -x -a '1 2 4 8 16 32 64' -d 'over how many shards the registers are spread'
 complete -c regaudit -n '__regaudit_is check' -l moment -x -a 'index time' -d 'the field that moments stand under'
 complete -c regaudit -n '__regaudit_is check' -l order -x -a '(__regaudit_registers)' -d 'prints an order of this register'
-complete -c regaudit -n '__regaudit_is check' -l as -x -a 'text summary json edn github junit' -d 'how the report is printed'
+complete -c regaudit -n '__regaudit_is check' -l as -x -a 'text summary json edn github junit trace' -d 'how the report is printed'
 complete -c regaudit -n '__regaudit_is check' -l only -x -a failing -d 'which registers have a record'
 complete -c regaudit -n '__regaudit_is check watch show' -l least -x -d 'status 4 where fewer operations stand'
 complete -c regaudit -n '__regaudit_is check watch show' -l least-each -x -d 'status 4 where fewer stand in a register'

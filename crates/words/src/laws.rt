@@ -7,7 +7,7 @@ ghost use Rattle.intervals.specs.declared.claim.Initial.TheVariants.{Known, Unkn
 ghost use Rattle.intervals.specs.declared.claim.Kind.TheVariants.{Regular, Atomic};
 ghost use Rattle.intervals.specs.declared.claim.Kind.TheVariants as kinds;
 ghost use Rattle.intervals.specs.declared.operation.Value.TheVariants.{Nil, Int};
-ghost use Rattle.words.specs.declared.check.ReportForm.TheVariants.{Report, Summary, Json, Edn, GitHub, Junit};
+ghost use Rattle.words.specs.declared.check.ReportForm.TheVariants.{Report, Summary, Json, Edn, GitHub, Junit, Trace};
 ghost use Rattle.words.specs.declared.completion.Shell.TheVariants.{Bash, Zsh, Fish};
 ghost use Rattle.words.specs.declared.lint.LintForm.TheVariants as lint_forms;
 ghost use Rattle.words.specs.declared.show.Picture.TheVariants as pictures;
@@ -52,6 +52,8 @@ pub fn checks_in_turn()
         ≡ Some (Check (record { tower = OfFile (codes "t"); shards = 1; moments = Index; order = None; form = Edn; only_failing = false; demand = no_demand; traces = codes "a" ∷ [] })) }
     ensures for_ci { (program : Text) → (asked (program ∷ codes "check" ∷ codes "--tower=t" ∷ codes "--as=github" ∷ codes "a" ∷ []) ≡ Some (Check (record { tower = OfFile (codes "t"); shards = 1; moments = Index; order = None; form = GitHub; only_failing = false; demand = no_demand; traces = codes "a" ∷ [] })))
         × (asked (program ∷ codes "check" ∷ codes "--tower=t" ∷ codes "--as=junit" ∷ codes "a" ∷ []) ≡ Some (Check (record { tower = OfFile (codes "t"); shards = 1; moments = Index; order = None; form = Junit; only_failing = false; demand = no_demand; traces = codes "a" ∷ [] }))) }
+    ensures small_trace { (program : Text) → asked (program ∷ codes "check" ∷ codes "--tower=t" ∷ codes "--as=trace" ∷ codes "a" ∷ [])
+        ≡ Some (Check (record { tower = OfFile (codes "t"); shards = 1; moments = Index; order = None; form = Trace; only_failing = false; demand = no_demand; traces = codes "a" ∷ [] })) }
     ensures failing { (program : Text) → asked (program ∷ codes "check" ∷ codes "--tower=t" ∷ codes "--as=json" ∷ codes "--only" ∷ codes "failing" ∷ codes "a" ∷ [])
         ≡ Some (Check (record { tower = OfFile (codes "t"); shards = 1; moments = Index; order = None; form = Json; only_failing = true; demand = no_demand; traces = codes "a" ∷ [] })) }
     ensures whole_records { (program : Text) → asked (program ∷ codes "check" ∷ codes "--tower" ∷ codes "t" ∷ codes "--shards" ∷ codes "64" ∷ codes "--moment" ∷ codes "time" ∷ codes "--order" ∷ codes "x" ∷ codes "--as" ∷ codes "edn" ∷ codes "--only" ∷ codes "failing" ∷ codes "--least" ∷ codes "7" ∷ codes "--least-each" ∷ codes "1" ∷ codes "--doubt" ∷ codes "3" ∷ codes "a" ∷ [])
@@ -160,7 +162,8 @@ pub fn words_that_ask_for_nothing()
         × (asked (program ∷ codes "check" ∷ codes "--tower=t" ∷ codes "--as=text" ∷ codes "--only=failing" ∷ codes "a" ∷ []) ≡ None)
         × (asked (program ∷ codes "check" ∷ codes "--tower=t" ∷ codes "--as=summary" ∷ codes "--only=failing" ∷ codes "a" ∷ []) ≡ None)
         × (asked (program ∷ codes "check" ∷ codes "--tower=t" ∷ codes "--as=github" ∷ codes "--only=failing" ∷ codes "a" ∷ []) ≡ None)
-        × (asked (program ∷ codes "check" ∷ codes "--tower=t" ∷ codes "--as=junit" ∷ codes "--only=failing" ∷ codes "a" ∷ []) ≡ None) }
+        × (asked (program ∷ codes "check" ∷ codes "--tower=t" ∷ codes "--as=junit" ∷ codes "--only=failing" ∷ codes "a" ∷ []) ≡ None)
+        × (asked (program ∷ codes "check" ∷ codes "--tower=t" ∷ codes "--as=trace" ∷ codes "--only=failing" ∷ codes "a" ∷ []) ≡ None) }
     ensures no_shell { (program : Text) → asked (program ∷ codes "completion" ∷ codes "csh" ∷ []) ≡ None }
     ensures none { asked [] ≡ None }
     ensures refused { (takes command_line (codes "regaudit" ∷ codes "safe" ∷ codes "a" ∷ codes "b" ∷ []) ≡ false)

@@ -2,7 +2,7 @@
 //!
 //! ```text
 //! regaudit check [--tower FILE] [--each KIND] [--shards N] [--moment index|time] [--order NAME]
-//!     [--as text|summary|json|edn|github|junit] [--only failing] [--least N] [--least-each N] [--doubt STATUS] TRACE..
+//!     [--as text|summary|json|edn|github|junit|trace] [--only failing] [--least N] [--least-each N] [--doubt STATUS] TRACE..
 //! regaudit watch [--tower FILE] [--each KIND] [--moment index|time] [--shards N] [--as text|json] [--until-fail]
 //!     [--settle N] [--least N] [--least-each N] [--doubt STATUS] TRACE..
 //! regaudit show [--tower FILE] [--each KIND] [--moment index|time] [--register NAME] [--svg|--html|--ascii]

@@ -1,11 +1,11 @@
-use Rattle.std.proofs.Common.{◌+◌, List, Option, map, subst, sym, take}
+use Rattle.std.proofs.Common.{◌+◌, [], List, Option, map, subst, sym, take}
 use Rattle.edn_reader.specs.declared.fault.EdnFault.{EdnFault}
 use Rattle.keys.specs.Named.{AreNamesAfter, none}
 use Rattle.command_parts.proofs.NamedIn.{one_more_text}
 use Rattle.command_parts.proofs.naming.add_texts.Goals as goal
 
 pub loop-text-init : goal.loop-text-init
-loop-text-init c = ?
+loop-text-init c = subst (λ (faults : List (Option EdnFault)). AreNamesAfter c.args.named.now [] faults c.args.named.now) (sym c.new-faults.ensures.items) none
 
 pub loop-text-preserved : goal.loop-text-preserved
 loop-text-preserved c =

@@ -1,4 +1,4 @@
-use Rattle.words.proofs.Asking.{any_names, between_traces, ci_check, each_check, edn_check, failing_check, json_check, plain_check, two_traces, whole_check, whole_records}
+use Rattle.words.proofs.Asking.{any_names, between_traces, ci_check, each_check, edn_check, failing_check, json_check, plain_check, trace_check, two_traces, whole_check, whole_records}
 use Rattle.words.proofs.laws.checks_in_turn.Goals as goal
 
 pub returns-clause-plain : goal.returns-clause-plain
@@ -27,6 +27,9 @@ returns-clause-edn c = edn_check
 
 pub returns-clause-for_ci : goal.returns-clause-for_ci
 returns-clause-for_ci c = ci_check
+
+pub returns-clause-small_trace : goal.returns-clause-small_trace
+returns-clause-small_trace c = trace_check
 
 pub returns-clause-failing : goal.returns-clause-failing
 returns-clause-failing c = failing_check

@@ -1,7 +1,6 @@
-use Rattle.std.proofs.Common.{rules, codes, length, map, vec_len, ◌≡◌, sym}
+use Rattle.std.proofs.Common.{rules, length, map, vec_len, ◌≡◌, sym}
 use Rattle.std.proofs.lemmas.List.{length-map}
 use Rattle.clap.specs.Words.{found_of, rows_of}
-use Rattle.words.proofs.Arguments.{value_in}
 use Rattle.words.proofs.Commands.{is_watch, no_tower_to_watch}
 use Rattle.words.proofs.watch.watch_of.Goals as goal
 

@@ -1,0 +1,4 @@
+-- two lists, place by place
+mod Pairs
+-- the events of registers, one register after another
+mod Parts
