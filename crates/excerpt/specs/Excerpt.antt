@@ -1,5 +1,5 @@
 -- The trace of the operations that show how the registers of a run fail, and that they fail alike in a run of it alone.
-use Rattle.std.specs.Prelude.{◌≡◌, ◌&&◌, ℕ, ◌+◌, true, false, Bool, List, [], ◌∷◌, ◌++◌, Option, Some, None, codes, flat_map, length, if◌then◌else◌}
+use Rattle.std.specs.Prelude.{◌≡◌, ◌&&◌, ◌||◌, is_none, ℕ, ◌+◌, true, false, Bool, List, [], ◌∷◌, ◌++◌, Option, Some, None, codes, flat_map, length, if◌then◌else◌}
 use Rattle.std.specs.List.{AllZip, list_any, slice_get}
 use Rattle.std.specs.Str.{bytes_eq}
 use Rattle.intervals.specs.declared.claim.Kind.{Kind}
@@ -60,11 +60,12 @@ abbrev pub outcome_word : Option Witness → List ℕ
 outcome_word None = codes "holds"
 outcome_word (Some witness) = way_word (ids_of witness)
 
--- two findings are of one kind, and hold both or fail in one way
+-- two registers hold both, or are of one kind and fail in one way
 abbrev pub are_alike : Finding → Finding → Bool
-are_alike finding other = bytes_eq (kind_word finding.kind) (kind_word other.kind) && bytes_eq (outcome_word finding.witness) (outcome_word other.witness)
+are_alike finding other =
+    bytes_eq (outcome_word finding.witness) (outcome_word other.witness) && (is_none finding.witness || bytes_eq (kind_word finding.kind) (kind_word other.kind))
 
--- two findings are alike
+-- two registers are alike, by what is found of them
 abbrev pub AreAlike : Finding → Finding → Type 0
 AreAlike finding other = are_alike finding other ≡ true
 

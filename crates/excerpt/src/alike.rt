@@ -9,7 +9,7 @@ use phrases::kind_word;
 use register_book::{Fault, Witness};
 use report::Finding;
 
-/// Whether each register is of the same kind, and holds in both or fails in both in one way.
+/// Whether each register holds in both, or is of one kind in both and fails in one way.
 pub fn all_alike(findings: &[Finding], others: &[Finding]) -> bool
     ensures { result ≡ true → AllZip AreAlike findings.now others.now }
 {
@@ -27,8 +27,8 @@ pub fn all_alike(findings: &[Finding], others: &[Finding]) -> bool
 fn are_alike(finding: &Finding, other: &Finding) -> bool
     ensures { result ≡ are_alike finding.now other.now }
 {
-    kind_word(finding.kind) == kind_word(other.kind)
-        && outcome_word(&finding.witness) == outcome_word(&other.witness)
+    outcome_word(&finding.witness) == outcome_word(&other.witness)
+        && (finding.witness.is_none() || kind_word(finding.kind) == kind_word(other.kind))
 }
 
 fn outcome_word(witness: &Option<Witness>) -> &'static str
