@@ -20,7 +20,7 @@ pub struct Shared<'n> {
 
 /// An event of an operation: its process, its type, what it does, its value, and its moment, where it has one.
 #[derive(Clone, Copy)]
-pub struct Event {
+pub struct PrintedEvent {
     pub process: i64,
     pub kind: &'static str,
     pub act: Act,
@@ -41,10 +41,10 @@ pub fn push_operation(
     push_event(alloc, text, shared, answer_of(op))
 }
 
-fn invocation_of(op: &Op) -> Event
+fn invocation_of(op: &Op) -> PrintedEvent
     ensures { (moments : AField) (name : List ℕ) → event_text moments name result.process result.kind.now result.act result.value result.moment ≡ event_text moments name op.now.process (codes ":invoke") op.now.act (invoked_value op.now.act) (Some op.now.begin.0) }
 {
-    Event {
+    PrintedEvent {
         process: op.process,
         kind: ":invoke",
         act: op.act,
@@ -54,18 +54,18 @@ fn invocation_of(op: &Op) -> Event
 }
 
 /// The last event: the answer, or that nobody knows how the operation went on.
-fn answer_of(op: &Op) -> Event
+fn answer_of(op: &Op) -> PrintedEvent
     ensures { (moments : AField) (name : List ℕ) → event_text moments name result.process result.kind.now result.act result.value result.moment ≡ answer_text moments name op.now.process op.now.act op.now.end }
 {
     match op.end {
-        Some(end) => Event {
+        Some(end) => PrintedEvent {
             process: op.process,
             kind: ":ok",
             act: op.act,
             value: op.value(),
             moment: Some(end.0),
         },
-        None => Event {
+        None => PrintedEvent {
             process: op.process,
             kind: ":info",
             act: op.act,
@@ -88,7 +88,7 @@ fn push_event(
     alloc: Global,
     text: &mut Vec<u8>,
     shared: Shared,
-    event: Event,
+    event: PrintedEvent,
 ) -> Result<(), AllocError>
     ensures { OnOk result (text.new.items ≡ text.old.items ++ event_text shared.entry.moments shared.entry.name.now event.process event.kind.now event.act event.value event.moment) }
 {
@@ -98,7 +98,7 @@ fn push_event(
 }
 
 /// What is before the name of the register.
-fn before_name(alloc: Global, event: Event) -> Result<String, AllocError>
+fn before_name(alloc: Global, event: PrintedEvent) -> Result<String, AllocError>
     ensures { IfOk result (λ text. string_bytes text ≡ codes "{:process " ++ signed_decimal event.process ++ codes " :type " ++ event.kind.now ++ codes " :f " ++ act_keyword event.act ++ codes " :value [") }
 {
     let mut text = String::new(alloc);
@@ -113,7 +113,11 @@ fn before_name(alloc: Global, event: Event) -> Result<String, AllocError>
 }
 
 /// What is after the name of the register.
-fn after_name(alloc: Global, moments: MomentField, event: Event) -> Result<String, AllocError>
+fn after_name(
+    alloc: Global,
+    moments: MomentField,
+    event: PrintedEvent,
+) -> Result<String, AllocError>
     ensures { IfOk result (λ text. string_bytes text ≡ codes " " ++ value_text event.value ++ codes "]" ++ moment_text moments event.moment ++ codes "}\n") }
 {
     let mut text = String::new(alloc);
