@@ -15,8 +15,8 @@ use Rattle.report.specs.declared.few.Least.{Least}
 use Rattle.report.specs.declared.fault.ReportFault.TheVariants as reports
 use Rattle.excerpt.specs.Excerpt.{IsTextOfExcerpt}
 use Rattle.ci_forms.specs.Ci.{IsTextForCi}
-use Rattle.ci_forms.specs.declared.facts.CiServer.{CiServer}
-use Rattle.ci_forms.specs.declared.facts.CiServer.TheVariants as servers
+use Rattle.ci_forms.specs.declared.told.CiServer.{CiServer}
+use Rattle.ci_forms.specs.declared.told.CiServer.TheVariants as servers
 use Rattle.records.specs.declared.line.Notation.{Notation}
 use Rattle.records.specs.declared.line.Notation.TheVariants as notations
 use Rattle.records.specs.Run.{IsTextOfRecords, RunNames}

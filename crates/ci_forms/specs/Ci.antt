@@ -11,8 +11,8 @@ use Rattle.report.specs.declared.finding.Finding.{Finding}
 use Rattle.report.specs.Doubt.{AreDoubts}
 use Rattle.report.specs.Finding.{AreFindings}
 use Rattle.report.specs.Summary.{is_failing}
-use Rattle.ci_forms.specs.declared.facts.CiServer.{CiServer}
-use Rattle.ci_forms.specs.declared.facts.CiServer.TheVariants.{GitHub, Junit}
+use Rattle.ci_forms.specs.declared.told.CiServer.{CiServer}
+use Rattle.ci_forms.specs.declared.told.CiServer.TheVariants.{GitHub, Junit}
 use Rattle.ci_forms.specs.Facts.{CiFacts}
 use Rattle.ci_forms.specs.GitHub.{github_text}
 use Rattle.ci_forms.specs.Junit.{junit_text}

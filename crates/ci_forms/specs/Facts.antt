@@ -22,7 +22,8 @@ use Rattle.report.specs.declared.finding.Finding.{Finding}
 use Rattle.report.specs.Culprit.{is_culprit}
 use Rattle.report.specs.Few.{few_each_line, few_line, has_fewer, operations}
 use Rattle.report.specs.Finding.{fails_of}
-use Rattle.ci_forms.specs.declared.facts.CiRun.{CiRun}
+use Rattle.ci_forms.specs.declared.facts.TheConstants.{IN_DOUBT}
+use Rattle.ci_forms.specs.declared.told.CiRun.{CiRun}
 
 -- what a CI server is told of: where elements are, the names of the traces, the tower, what is found of each register and
 -- what is in doubt of it, the logs, and how many operations have to stand, at least
@@ -74,16 +75,16 @@ abbrev pub is_to_blame : CiFacts → RegId → Bool
 is_to_blame facts id = option_map_or (is_culprit (fails_of facts.findings) id.0) (slice_get facts.tower.registers id.0) false
 
 -- what is said of a failure that rests on elements that were left out, by the first of them; empty where it rests on none
-abbrev pub doubt_words : Option (ℕ × ℕ) → List ℕ
+unfoldable pub doubt_words : Option (ℕ × ℕ) → List ℕ
 doubt_words None = []
-doubt_words (Some at) = codes "; in doubt, since elements were left out (first " ++ place_text at.0 at.1 ++ codes ")"
+doubt_words (Some at) = IN_DOUBT.now ++ place_text at.0 at.1 ++ codes ")"
 
 -- why a register fails: the kind that it claims to be, the fault, and the first element on which that rests, if any
-abbrev pub why_text : Kind → Witness → Option (ℕ × ℕ) → List ℕ
+unfoldable pub why_text : Kind → Witness → Option (ℕ × ℕ) → List ℕ
 why_text kind witness rests = kind_word kind ++ codes ": " ++ fault_text (ids_of witness) ++ doubt_words rests
 
 -- by which code and at which byte the trace of this number broke
-abbrev pub break_text : ℕ → Broken → List ℕ
+unfoldable pub break_text : ℕ → Broken → List ℕ
 break_text feeder broken = codes "broken " ++ decimal feeder ++ codes " " ++ break_code_of broken.code ++ codes " at " ++ decimal broken.place
 
 -- the line of what is too few in all registers together; empty where nothing is

@@ -15,6 +15,7 @@ use Rattle.places.specs.Spots.{line_of_byte}
 use Rattle.report.specs.declared.finding.Finding.{Finding}
 use Rattle.report.specs.Doubted.{first_rested}
 use Rattle.report.specs.Refused.{refused}
+use Rattle.ci_forms.specs.declared.github.TheConstants.{FAILS, TITLE}
 use Rattle.ci_forms.specs.Facts.{CiFacts, break_text, few_of_all, few_of_each, first_shown, is_to_blame, concatenated, op_line, trace_name, why_text}
 
 -- a character of a property: a percent sign, a line end, a colon and a comma as a percent sign and two digits
@@ -27,11 +28,11 @@ property_char c =
     else (if c == 44 then codes "%2C" else encode_utf8 c))))
 
 -- the name of a file as a property
-abbrev pub file_property : List ℕ → List ℕ
+unfoldable pub file_property : List ℕ → List ℕ
 file_property name = flat_map property_char (lossy_chars name)
 
 -- a name as it is printed, as a property
-abbrev pub name_property : List ℕ → List ℕ
+unfoldable pub name_property : List ℕ → List ℕ
 name_property name = flat_map property_char (map printed_char (lossy_chars name))
 
 -- a file and a line in it as properties; empty where the line is not known
@@ -49,11 +50,11 @@ abbrev pub command_word : Bool → List ℕ
 command_word culprit = if culprit then codes "::error " else codes "::warning "
 
 -- the title of a register that fails, up to the message
-abbrev pub title_property : List ℕ → List ℕ
-title_property name = codes "title=register " ++ name_property name ++ codes " fails::"
+unfoldable pub title_property : List ℕ → List ℕ
+title_property name = TITLE.now ++ name_property name ++ FAILS.now
 
 -- the command of a register that fails
-abbrev pub failure_command : CiFacts → RegId → Kind → Witness → List ℕ
+unfoldable pub failure_command : CiFacts → RegId → Kind → Witness → List ℕ
 failure_command facts id kind witness =
     command_word (is_to_blame facts id) ++ first_properties facts (first_shown witness) ++ title_property (register_name facts.tower.registers id)
     ++ why_text kind witness (first_rested facts.doubts id) ++ 10 ∷ []
@@ -68,11 +69,11 @@ failure_commands facts number [] = []
 failure_commands facts number (finding ∷ findings) = failure_command_of facts number finding ++ failure_commands facts (number + 1) findings
 
 -- the title of a break, and its message
-abbrev pub break_end : ℕ → Broken → List ℕ
+unfoldable pub break_end : ℕ → Broken → List ℕ
 break_end feeder broken = codes "title=" ++ break_code_of broken.code ++ codes "::" ++ break_text feeder broken ++ 10 ∷ []
 
 -- the command of a trace that broke
-abbrev pub break_command : CiFacts → ℕ → Broken → List ℕ
+unfoldable pub break_command : CiFacts → ℕ → Broken → List ℕ
 break_command facts feeder broken =
     codes "::error " ++ place_properties (trace_name facts.traces feeder) (line_of_byte facts.places feeder broken.place) ++ break_end feeder broken
 
@@ -87,11 +88,11 @@ break_commands facts feeder [] = []
 break_commands facts feeder (log ∷ logs) = break_command_of facts feeder log.broken ++ break_commands facts (feeder + 1) logs
 
 -- the command of a line that says what is too few; empty where the line is
-abbrev pub few_command : List ℕ → List ℕ
+unfoldable pub few_command : List ℕ → List ℕ
 few_command line = if nat_eq (length line) 0 then [] else codes "::error title=too few::" ++ line
 
 -- the command of so many refused elements; empty where there are none
-abbrev pub refused_command : ℕ → List ℕ
+unfoldable pub refused_command : ℕ → List ℕ
 refused_command many =
     if nat_eq many 0 then []
     else codes "::notice title=refused::elements refused: " ++ decimal many ++ codes "; regaudit lint --as github has each at its line\n"

@@ -19,11 +19,12 @@ use Rattle.report.specs.Failing.{level_of}
 use Rattle.report.specs.Few.{few_text}
 use Rattle.report.specs.Listing.{level_name}
 use Rattle.report.specs.Summary.{is_broken, is_failing}
+use Rattle.ci_forms.specs.declared.junit.TheConstants.{ENOUGH, ERROR, ERRORS, ERROR_END, FAILURE, FAILURES, FAILURE_END, FEW, MESSAGE, OPENED, PROGRAM, SKIPPED, TESTS, TRACES}
 use Rattle.ci_forms.specs.Facts.{CiFacts, break_text, is_to_blame, concatenated, op_line, trace_name, why_text}
 use Rattle.ci_forms.specs.Xml.{xml_text}
 
 -- the beginning of a case: its class and its name
-abbrev pub case_head : List ℕ → List ℕ → List ℕ
+unfoldable pub case_head : List ℕ → List ℕ → List ℕ
 case_head class name = codes "  <testcase classname=\"" ++ xml_text class ++ codes "\" name=\"" ++ xml_text name ++ codes "\""
 
 -- a colon and a line, where the line is known
@@ -49,18 +50,26 @@ abbrev pub shown_parts : Op → List ℕ
 shown_parts op = shown_part op.parts.invocation.now ++ shown_part_of op.parts.answer ++ shown_part_of op.parts.amendment
 
 -- an operation of a failure: the file and the line of its invocation, and its texts
-abbrev pub shown_text : CiFacts → Op → List ℕ
+unfoldable pub shown_text : CiFacts → Op → List ℕ
 shown_text facts op = place_line (trace_name facts.traces op.id.feeder) (op_line facts.places op.id) ++ shown_parts op
 
 -- what a failure is: that of a culprit, or of a register of which a part fails
 abbrev pub failure_type : Bool → List ℕ
 failure_type culprit = if culprit then codes "culprit" else codes "fails over a part"
 
+-- an opening and what it is that is opened, up to its message
+abbrev pub type_part : List ℕ → List ℕ → List ℕ
+type_part opening what = opening ++ what ++ MESSAGE.now
+
+-- the beginning of a failure: what it is, and why
+unfoldable pub failure_head : Bool → Kind → Witness → Option (ℕ × ℕ) → List ℕ
+failure_head culprit kind witness rests = type_part FAILURE.now (failure_type culprit) ++ why_text kind witness rests ++ OPENED.now
+
 -- the end of the case of a register that fails: why, and the operations that show it
-abbrev pub failure_part : CiFacts → RegId → Kind → Witness → List ℕ
+unfoldable pub failure_part : CiFacts → RegId → Kind → Witness → List ℕ
 failure_part facts id kind witness =
-    codes ">\n    <failure type=\"" ++ failure_type (is_to_blame facts id) ++ codes "\" message=\"" ++ why_text kind witness (first_rested facts.doubts id) ++ codes "\">\n"
-    ++ flat_map (shown_text facts) (ops_in_roles (roles_of witness)) ++ codes "</failure>\n  </testcase>\n"
+    failure_head (is_to_blame facts id) kind witness (first_rested facts.doubts id)
+    ++ flat_map (shown_text facts) (ops_in_roles (roles_of witness)) ++ FAILURE_END.now
 
 -- the end of the case of a register
 abbrev pub verdict_part : CiFacts → RegId → Kind → Option Witness → List ℕ
@@ -72,7 +81,7 @@ abbrev pub level_at : TowerModel → RegId → ℕ
 level_at tower id = level_of tower.registers id
 
 -- the case of a register: its level, its name, and why it fails where it does
-abbrev pub register_case : CiFacts → RegId → Finding → List ℕ
+unfoldable pub register_case : CiFacts → RegId → Finding → List ℕ
 register_case facts id finding =
     case_head (level_name facts.tower.levels (level_at facts.tower id)) (register_name facts.tower.registers id) ++ verdict_part facts id finding.kind finding.witness
 
@@ -82,14 +91,14 @@ register_cases facts number [] = []
 register_cases facts number (finding ∷ findings) = register_case facts (record { 0 = number }) finding ∷ register_cases facts (number + 1) findings
 
 -- the beginning of the error of a trace that broke
-abbrev pub break_part : ℕ → Broken → List ℕ
-break_part feeder broken = codes ">\n    <error type=\"" ++ break_code_of broken.code ++ codes "\" message=\"" ++ break_text feeder broken ++ codes "\">\n"
+unfoldable pub break_part : ℕ → Broken → List ℕ
+break_part feeder broken = type_part ERROR.now (break_code_of broken.code) ++ break_text feeder broken ++ OPENED.now
 
 -- the case of a trace that broke
-abbrev pub break_case : CiFacts → ℕ → Broken → List ℕ
+unfoldable pub break_case : CiFacts → ℕ → Broken → List ℕ
 break_case facts feeder broken =
-    case_head (codes "traces") (trace_name facts.traces feeder) ++ break_part feeder broken
-    ++ place_line (trace_name facts.traces feeder) (line_of_byte facts.places feeder broken.place) ++ codes "</error>\n  </testcase>\n"
+    case_head TRACES.now (trace_name facts.traces feeder) ++ break_part feeder broken
+    ++ place_line (trace_name facts.traces feeder) (line_of_byte facts.places feeder broken.place) ++ ERROR_END.now
 
 -- the case of the trace of this number as a list; none where it did not break
 abbrev pub break_case_of : CiFacts → ℕ → Option Broken → List (List ℕ)
@@ -102,10 +111,10 @@ break_cases facts feeder [] = []
 break_cases facts feeder (log ∷ logs) = break_case_of facts feeder log.broken ++ break_cases facts (feeder + 1) logs
 
 -- the case of what is too few, by the lines of it; empty where nothing is
-abbrev pub few_case : List ℕ → List ℕ
+unfoldable pub few_case : List ℕ → List ℕ
 few_case few =
     if nat_eq (length few) 0 then []
-    else case_head (codes "regaudit") (codes "enough operations") ++ codes ">\n    <failure type=\"too few\" message=\"too few operations stand\">\n" ++ few ++ codes "</failure>\n  </testcase>\n"
+    else case_head PROGRAM.now ENOUGH.now ++ FEW.now ++ few ++ FAILURE_END.now
 
 -- how many cases there are for what is too few, by the lines of it
 abbrev pub cases_for_few : List ℕ → ℕ
@@ -123,11 +132,13 @@ failures_of facts few = count_by is_failing facts.findings + few
 abbrev pub errors_of : CiFacts → ℕ
 errors_of facts = count_by is_broken facts.logs
 
+-- a number after a text
+abbrev pub numbered : List ℕ → ℕ → List ℕ
+numbered before number = before ++ decimal number
+
 -- the beginning of the suite: how many cases there are, fail, and have an error
-abbrev pub suite_head : ℕ → ℕ → ℕ → List ℕ
-suite_head tests failures errors =
-    codes "<?xml version=\"1.0\" encoding=\"UTF-8\"?>\n<testsuite name=\"regaudit\" tests=\"" ++ decimal tests
-    ++ codes "\" failures=\"" ++ decimal failures ++ codes "\" errors=\"" ++ decimal errors ++ codes "\" skipped=\"0\">\n"
+unfoldable pub suite_head : ℕ → ℕ → ℕ → List ℕ
+suite_head tests failures errors = numbered TESTS.now tests ++ numbered FAILURES.now failures ++ numbered ERRORS.now errors ++ SKIPPED.now
 
 -- the suite, by the lines of what is too few: a case for each register, for each trace that broke, and for what is too few
 abbrev pub suite_text : CiFacts → List ℕ → List ℕ

@@ -4,3 +4,5 @@ pub mod GitHub
 pub mod Xml
 pub mod Junit
 pub mod Ci
+-- words of the laws
+pub mod Bytes

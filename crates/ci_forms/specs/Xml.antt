@@ -15,5 +15,5 @@ xml_char c =
     else (if c == 34 then codes "&quot;" else encode_utf8 (xml_allowed c))))
 
 -- a text as it is written in XML, so that it reads as itself; bytes that are no UTF-8 become U+FFFD
-abbrev pub xml_text : List ℕ → List ℕ
+unfoldable pub xml_text : List ℕ → List ℕ
 xml_text text = flat_map xml_char (lossy_chars text)

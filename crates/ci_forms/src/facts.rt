@@ -1,52 +1,20 @@
-//! What a CI server is told of a run, and what is told to each in the same words.
+//! What each CI server is told in the same words.
 
-ghost use Rattle.std.specs.Prelude.{◌≡◌, ◌++◌, OnOk, length, map, string_bytes};
+ghost use Rattle.std.specs.Prelude.{◌≡◌, ◌++◌, OnOk, map, string_bytes};
 ghost use Rattle.report.specs.Doubted.{first_rested};
-ghost use Rattle.report.specs.Finding.{fails_of};
 ghost use Rattle.ci_forms.specs.Facts.{break_text, doubt_words, facts_of, first_in_slots, first_shown, is_to_blame, op_line, trace_name, why_text};
 
+use crate::told::CiRun;
 use intervals::{Kind, OpId, RegId};
-use logs::{Broken, Log};
+use logs::Broken;
 use phrases::{kind_word, push_fault_text};
 use places::Places;
 use register_book::{InRole, Witness};
-use report::{Doubt, Finding, Least, is_culprit};
+use report::{Doubt, is_culprit};
 use std::alloc::AllocError;
-use tower_file::Tower;
 
-/// The CI server that reads what is written.
-#[derive(Clone, Copy)]
-pub enum CiServer {
-    /// GitHub, by the workflow commands that annotate files.
-    GitHub,
-    /// A server that reads the XML of JUnit.
-    Junit,
-}
-
-/// How a run is written for a CI server, and what is said beside what is found.
-#[derive(Clone, Copy)]
-pub struct CiForm<'a> {
-    pub server: CiServer,
-    /// The traces, by their names.
-    pub traces: &'a [&'a str],
-    /// How many operations have to stand, at least.
-    pub least: Least,
-}
-
-/// What a CI server is told of a run, lent: of each register, by number, what is found of it, whether it fails, and what is
-/// in doubt of it; the logs, and where elements are.
-#[derive(Clone, Copy)]
-pub struct CiRun<'f, 't> {
-    pub form: &'f CiForm<'f>,
-    pub tower: &'f Tower,
-    pub each: &'f [Finding<'t>],
-    pub failing: &'f [bool],
-    pub doubts: &'f [Doubt],
-    pub logs: &'f [Log<'t>],
-    pub places: &'f Places<'f>,
-    ghost many: { length each.now ≡ length tower.now.registers },
-    ghost failing_are: { failing.now ≡ fails_of each.now },
-}
+/// What comes before the first element on which a failure rests.
+pub const IN_DOUBT: &str = "; in doubt, since elements were left out (first ";
 
 /// Whether a register is a culprit.
 pub fn is_to_blame(run: &CiRun, id: RegId) -> bool
@@ -104,6 +72,7 @@ pub fn first_rested(doubts: &[Doubt], id: RegId) -> Option<(usize, u64)>
 }
 
 /// Adds why a register fails: the kind that it claims to be, the fault, and the first element on which that rests.
+#[tactic(auto, unfolding(crate::specs::Facts::why_text))]
 pub fn push_why(
     text: &mut String,
     kind: Kind,
@@ -118,19 +87,19 @@ pub fn push_why(
     push_doubt(text, rests)
 }
 
+#[tactic(auto, unfolding(crate::specs::Facts::doubt_words))]
 fn push_doubt(text: &mut String, rests: Option<(usize, u64)>) -> Result<(), AllocError>
     ensures { OnOk result (string_bytes text.new ≡ string_bytes text.old ++ doubt_words rests) }
 {
     let Some((feeder, event)) = rests else {
         return Ok(());
     };
-    write!(
-        text,
-        "; in doubt, since elements were left out (first {feeder}:{event})"
-    )
+    text.push_str(IN_DOUBT)?;
+    write!(text, "{feeder}:{event})")
 }
 
 /// Adds where a trace broke, and why.
+#[tactic(auto, unfolding(crate::specs::Facts::break_text))]
 pub fn push_break(text: &mut String, feeder: usize, broken: Broken) -> Result<(), AllocError>
     ensures { OnOk result (string_bytes text.new ≡ string_bytes text.old ++ break_text feeder broken) }
 {

@@ -5,9 +5,10 @@ ghost use Rattle.ci_forms.specs.Facts.{facts_of, few_of_all, few_of_each, concat
 ghost use Rattle.ci_forms.specs.GitHub.{break_command, break_command_of, break_commands, break_end, command_word, failure_command, failure_command_of, failure_commands, few_command, file_property, first_properties, github_text, name_property, place_properties, property_char, refused_command, title_property};
 
 use crate::facts::{
-    CiRun, first_rested, first_shown, is_to_blame, op_line, push_break, push_why, trace_name,
+    first_rested, first_shown, is_to_blame, op_line, push_break, push_why, trace_name,
 };
 use crate::few::{few_of_all, few_of_each};
+use crate::told::CiRun;
 use bstr::ByteSlice;
 use intervals::{Kind, OpId, RegId};
 use logs::Broken;
@@ -15,6 +16,11 @@ use phrases::{name_of, printed_char};
 use register_book::Witness;
 use report::{Finding, count_refused};
 use std::alloc::{AllocError, Global};
+
+/// What comes before the name of a register that fails, and after it.
+pub const TITLE: &str = "title=register ";
+
+pub const FAILS: &str = " fails::";
 
 /// Adds a command for each register that fails, for each trace that broke, for what is too few, and for the refusals.
 pub fn push_github(text: &mut String, alloc: Global, run: &CiRun) -> Result<(), AllocError>
@@ -53,6 +59,7 @@ fn push_failure_of(
     }
 }
 
+#[tactic(auto, unfolding(crate::specs::GitHub::failure_command))]
 fn push_failure(
     text: &mut String,
     run: &CiRun,
@@ -99,15 +106,17 @@ fn push_place(text: &mut String, name: &str, line: Option<usize>) -> Result<(), 
 }
 
 /// The title of a register that fails.
+#[tactic(auto, unfolding(crate::specs::GitHub::title_property))]
 fn push_title(text: &mut String, name: &[u8]) -> Result<(), AllocError>
     ensures { OnOk result (string_bytes text.new ≡ string_bytes text.old ++ title_property name.now) }
 {
-    text.push_str("title=register ")?;
+    text.push_str(TITLE)?;
     push_name(text, name)?;
-    text.push_str(" fails::")
+    text.push_str(FAILS)
 }
 
 /// The name of a file as a property.
+#[tactic(auto, unfolding(crate::specs::GitHub::file_property))]
 fn push_file(text: &mut String, name: &[u8]) -> Result<(), AllocError>
     ensures { OnOk result (string_bytes text.new ≡ string_bytes text.old ++ file_property name.now) }
 {
@@ -118,6 +127,7 @@ fn push_file(text: &mut String, name: &[u8]) -> Result<(), AllocError>
 }
 
 /// A name as it is printed, as a property.
+#[tactic(auto, unfolding(crate::specs::GitHub::name_property))]
 fn push_name(text: &mut String, name: &[u8]) -> Result<(), AllocError>
     ensures { OnOk result (string_bytes text.new ≡ string_bytes text.old ++ name_property name.now) }
 {
@@ -165,6 +175,7 @@ fn push_break_of(
     }
 }
 
+#[tactic(auto, unfolding(crate::specs::GitHub::break_command))]
 fn push_break_command(
     text: &mut String,
     run: &CiRun,
@@ -180,6 +191,7 @@ fn push_break_command(
 }
 
 /// The title of a break, and its message.
+#[tactic(auto, unfolding(crate::specs::GitHub::break_end))]
 fn push_break_end(text: &mut String, feeder: usize, broken: Broken) -> Result<(), AllocError>
     ensures { OnOk result (string_bytes text.new ≡ string_bytes text.old ++ break_end feeder broken) }
 {
@@ -205,6 +217,7 @@ fn push_few_of_each(text: &mut String, alloc: Global, run: &CiRun) -> Result<(),
 }
 
 /// The command of a line that says what is too few; nothing where there is no line.
+#[tactic(auto, unfolding(crate::specs::GitHub::few_command))]
 fn push_few(text: &mut String, line: &str) -> Result<(), AllocError>
     ensures { OnOk result (string_bytes text.new ≡ string_bytes text.old ++ few_command line.now) }
 {
@@ -215,6 +228,7 @@ fn push_few(text: &mut String, line: &str) -> Result<(), AllocError>
     text.push_str(line)
 }
 
+#[tactic(auto, unfolding(crate::specs::GitHub::refused_command))]
 fn push_refused(text: &mut String, many: u128) -> Result<(), AllocError>
     ensures { OnOk result (string_bytes text.new ≡ string_bytes text.old ++ refused_command many) }
 {

@@ -3,10 +3,11 @@
 ghost use Rattle.std.specs.Prelude.{◌≡◌, ◌≤◌, ◌++◌, ◌<◌, OnOk, flat_map, string_bytes};
 ghost use Rattle.register_book.specs.Fault.{ops_in_roles};
 ghost use Rattle.ci_forms.specs.Facts.{facts_of, concatenated};
-ghost use Rattle.ci_forms.specs.Junit.{break_case, break_case_of, break_cases, break_part, case_head, cases_for_few, errors_of, failure_part, failure_type, failures_of, few_case, junit_text, level_at, line_part, place_line, register_case, register_cases, shown_part, shown_part_of, shown_parts, shown_text, suite_head, tests_of, verdict_part};
+ghost use Rattle.ci_forms.specs.Junit.{break_case, break_case_of, break_cases, break_part, case_head, cases_for_few, errors_of, failure_head, failure_part, failure_type, failures_of, few_case, junit_text, level_at, line_part, numbered, place_line, register_case, register_cases, shown_part, shown_part_of, shown_parts, shown_text, suite_head, tests_of, type_part, verdict_part};
 
-use crate::facts::{CiRun, first_rested, is_to_blame, op_line, push_break, push_why, trace_name};
+use crate::facts::{first_rested, is_to_blame, op_line, push_break, push_why, trace_name};
 use crate::few::few_lines;
+use crate::told::CiRun;
 use crate::xml::push_xml;
 use intervals::{Kind, Op, RegId};
 use logs::Broken;
@@ -15,6 +16,39 @@ use register_book::{InRole, Witness};
 use report::{Finding, count_broken, count_failing, level_name};
 use std::alloc::{AllocError, Global};
 use tower_file::Tower;
+
+/// The beginning of the suite, up to each of its numbers, and after the last.
+pub const TESTS: &str =
+    "<?xml version=\"1.0\" encoding=\"UTF-8\"?>\n<testsuite name=\"regaudit\" tests=\"";
+
+pub const FAILURES: &str = "\" failures=\"";
+
+pub const ERRORS: &str = "\" errors=\"";
+
+pub const SKIPPED: &str = "\" skipped=\"0\">\n";
+
+/// The class of the cases of traces.
+pub const TRACES: &str = "traces";
+
+/// The class and the name of the case of what is too few, and the beginning of its failure.
+pub const PROGRAM: &str = "regaudit";
+
+pub const ENOUGH: &str = "enough operations";
+
+pub const FEW: &str = ">\n    <failure type=\"too few\" message=\"too few operations stand\">\n";
+
+/// A failure and an error, up to what it is, then up to its message, and after that; and their ends.
+pub const FAILURE: &str = ">\n    <failure type=\"";
+
+pub const ERROR: &str = ">\n    <error type=\"";
+
+pub const MESSAGE: &str = "\" message=\"";
+
+pub const OPENED: &str = "\">\n";
+
+pub const FAILURE_END: &str = "</failure>\n  </testcase>\n";
+
+pub const ERROR_END: &str = "</error>\n  </testcase>\n";
 
 /// Adds the suite: a case for each register, for each trace that broke, and for what is too few.
 pub fn push_junit(text: &mut String, alloc: Global, run: &CiRun) -> Result<(), AllocError>
@@ -47,6 +81,7 @@ fn push_head(text: &mut String, run: &CiRun, few: u128) -> Result<(), AllocError
     push_counts(text, registers + broken + few, failing + few, broken)
 }
 
+#[tactic(auto, unfolding(crate::specs::Junit::suite_head))]
 fn push_counts(
     text: &mut String,
     tests: u128,
@@ -55,15 +90,18 @@ fn push_counts(
 ) -> Result<(), AllocError>
     ensures { OnOk result (string_bytes text.new ≡ string_bytes text.old ++ suite_head tests failures errors) }
 {
-    text.push_str(
-        "<?xml version=\"1.0\" encoding=\"UTF-8\"?>\n<testsuite name=\"regaudit\" tests=\"",
-    )?;
-    write!(text, "{tests}")?;
-    text.push_str("\" failures=\"")?;
-    write!(text, "{failures}")?;
-    text.push_str("\" errors=\"")?;
-    write!(text, "{errors}")?;
-    text.push_str("\" skipped=\"0\">\n")
+    push_numbered(text, TESTS, tests)?;
+    push_numbered(text, FAILURES, failures)?;
+    push_numbered(text, ERRORS, errors)?;
+    text.push_str(SKIPPED)
+}
+
+/// A text, and a number after it.
+fn push_numbered(text: &mut String, before: &str, number: u128) -> Result<(), AllocError>
+    ensures { OnOk result (string_bytes text.new ≡ string_bytes text.old ++ numbered before.now number) }
+{
+    text.push_str(before)?;
+    write!(text, "{number}")
 }
 
 /// The cases of the registers, by number.
@@ -76,6 +114,7 @@ fn push_registers(text: &mut String, run: &CiRun) -> Result<(), AllocError>
     Ok(())
 }
 
+#[tactic(auto, unfolding(crate::specs::Junit::register_case))]
 fn push_register(
     text: &mut String,
     run: &CiRun,
@@ -105,6 +144,7 @@ fn level_at(tower: &Tower, id: RegId) -> usize
 }
 
 /// The beginning of a case.
+#[tactic(auto, unfolding(crate::specs::Junit::case_head))]
 fn push_case(text: &mut String, class: &[u8], name: &[u8]) -> Result<(), AllocError>
     ensures { OnOk result (string_bytes text.new ≡ string_bytes text.old ++ case_head class.now name.now) }
 {
@@ -130,6 +170,7 @@ fn push_verdict(
     }
 }
 
+#[tactic(auto, unfolding(crate::specs::Junit::failure_part))]
 fn push_failure(
     text: &mut String,
     run: &CiRun,
@@ -139,13 +180,40 @@ fn push_failure(
 ) -> Result<(), AllocError>
     ensures { OnOk result (string_bytes text.new ≡ string_bytes text.old ++ failure_part (facts_of run.now) id kind witness.now) }
 {
-    text.push_str(">\n    <failure type=\"")?;
-    text.push_str(failure_type(is_to_blame(run, id)))?;
-    text.push_str("\" message=\"")?;
-    push_why(text, kind, witness, first_rested(run.doubts, id))?;
-    text.push_str("\">\n")?;
+    push_failure_head(
+        text,
+        is_to_blame(run, id),
+        kind,
+        witness,
+        first_rested(run.doubts, id),
+    )?;
     push_shown(text, run, &witness.roles())?;
-    text.push_str("</failure>\n  </testcase>\n")
+    text.push_str(FAILURE_END)
+}
+
+/// An opening and what it is that is opened, up to its message.
+fn push_type(text: &mut String, opening: &str, what: &str) -> Result<(), AllocError>
+    ensures { OnOk result (string_bytes text.new ≡ string_bytes text.old ++ type_part opening.now what.now) }
+{
+    text.push_str(opening)?;
+    text.push_str(what)?;
+    text.push_str(MESSAGE)
+}
+
+/// The beginning of a failure: what it is, and why.
+#[tactic(auto, unfolding(crate::specs::Junit::failure_head))]
+fn push_failure_head(
+    text: &mut String,
+    culprit: bool,
+    kind: Kind,
+    witness: &Witness,
+    rests: Option<(usize, u64)>,
+) -> Result<(), AllocError>
+    ensures { OnOk result (string_bytes text.new ≡ string_bytes text.old ++ failure_head culprit kind witness.now rests) }
+{
+    push_type(text, FAILURE, failure_type(culprit))?;
+    push_why(text, kind, witness, rests)?;
+    text.push_str(OPENED)
 }
 
 fn failure_type(culprit: bool) -> &'static str
@@ -171,6 +239,7 @@ fn push_shown(text: &mut String, run: &CiRun, slots: &[Option<InRole>]) -> Resul
 }
 
 /// Where an operation is, and its texts.
+#[tactic(auto, unfolding(crate::specs::Junit::shown_text))]
 fn push_operation(text: &mut String, run: &CiRun, op: &Op) -> Result<(), AllocError>
     ensures { OnOk result (string_bytes text.new ≡ string_bytes text.old ++ shown_text (facts_of run.now) op.now) }
 {
@@ -247,6 +316,7 @@ fn push_break_of(
     }
 }
 
+#[tactic(auto, unfolding(crate::specs::Junit::break_case))]
 fn push_break_case(
     text: &mut String,
     run: &CiRun,
@@ -256,31 +326,31 @@ fn push_break_case(
     ensures { OnOk result (string_bytes text.new ≡ string_bytes text.old ++ break_case (facts_of run.now) feeder broken) }
 {
     let name = trace_name(run.form.traces, feeder);
-    push_case(text, b"traces", name.as_bytes())?;
+    push_case(text, TRACES.as_bytes(), name.as_bytes())?;
     push_break_head(text, feeder, broken)?;
     push_place(text, name, run.places.line_of(feeder as u64, broken.place))?;
-    text.push_str("</error>\n  </testcase>\n")
+    text.push_str(ERROR_END)
 }
 
+#[tactic(auto, unfolding(crate::specs::Junit::break_part))]
 fn push_break_head(text: &mut String, feeder: usize, broken: Broken) -> Result<(), AllocError>
     ensures { OnOk result (string_bytes text.new ≡ string_bytes text.old ++ break_part feeder broken) }
 {
-    text.push_str(">\n    <error type=\"")?;
-    text.push_str(broken.code.code())?;
-    text.push_str("\" message=\"")?;
+    push_type(text, ERROR, broken.code.code())?;
     push_break(text, feeder, broken)?;
-    text.push_str("\">\n")
+    text.push_str(OPENED)
 }
 
 /// The case of what is too few, by the lines of it; nothing where nothing is.
+#[tactic(auto, unfolding(crate::specs::Junit::few_case))]
 fn push_few(text: &mut String, few: &str) -> Result<(), AllocError>
     ensures { OnOk result (string_bytes text.new ≡ string_bytes text.old ++ few_case few.now) }
 {
     if few.len() == 0 {
         return Ok(());
     }
-    push_case(text, b"regaudit", b"enough operations")?;
-    text.push_str(">\n    <failure type=\"too few\" message=\"too few operations stand\">\n")?;
+    push_case(text, PROGRAM.as_bytes(), ENOUGH.as_bytes())?;
+    text.push_str(FEW)?;
     text.push_str(few)?;
-    text.push_str("</failure>\n  </testcase>\n")
+    text.push_str(FAILURE_END)
 }

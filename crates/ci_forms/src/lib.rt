@@ -12,7 +12,8 @@ mod github;
 mod junit;
 pub mod laws;
 mod run;
+mod told;
 mod xml;
 
-pub use facts::{CiForm, CiServer};
 pub use run::write_for_ci;
+pub use told::{CiForm, CiServer};

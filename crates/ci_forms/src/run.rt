@@ -8,9 +8,9 @@ ghost use Rattle.report.specs.Summary.{is_failing};
 ghost use Rattle.ci_forms.specs.Ci.{AreFailurePlaces, IsTextForCi, ci_text};
 ghost use Rattle.ci_forms.specs.Facts.{facts_of};
 
-use crate::facts::{CiForm, CiRun, CiServer};
 use crate::github::push_github;
 use crate::junit::push_junit;
+use crate::told::{CiForm, CiRun, CiServer};
 use logs::Run;
 use places::Places;
 use report::{Finding, ReportFault, doubts_of, failing_of, find_all};

@@ -8,6 +8,7 @@ use std::alloc::AllocError;
 
 /// Adds a text so that it reads as itself, on one line: what would be markup becomes an entity, what XML does not allow
 /// becomes a blank or U+FFFD.
+#[tactic(auto, unfolding(crate::specs::Xml::xml_text))]
 pub fn push_xml(text: &mut String, plain: &[u8]) -> Result<(), AllocError>
     ensures { OnOk result (string_bytes text.new ≡ string_bytes text.old ++ xml_text plain.now) }
 {
