@@ -133,12 +133,12 @@ abbrev pub errors_of : CiFacts → ℕ
 errors_of facts = count_by is_broken facts.logs
 
 -- a number after a text
-abbrev pub numbered : List ℕ → ℕ → List ℕ
-numbered before number = before ++ decimal number
+abbrev pub with_number : List ℕ → ℕ → List ℕ
+with_number before number = before ++ decimal number
 
 -- the beginning of the suite: how many cases there are, fail, and have an error
 unfoldable pub suite_head : ℕ → ℕ → ℕ → List ℕ
-suite_head tests failures errors = numbered TESTS.now tests ++ numbered FAILURES.now failures ++ numbered ERRORS.now errors ++ SKIPPED.now
+suite_head tests failures errors = with_number TESTS.now tests ++ with_number FAILURES.now failures ++ with_number ERRORS.now errors ++ SKIPPED.now
 
 -- the suite, by the lines of what is too few: a case for each register, for each trace that broke, and for what is too few
 abbrev pub suite_text : CiFacts → List ℕ → List ℕ

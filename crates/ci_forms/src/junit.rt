@@ -3,7 +3,7 @@
 ghost use Rattle.std.specs.Prelude.{◌≡◌, ◌≤◌, ◌++◌, ◌<◌, OnOk, flat_map, string_bytes};
 ghost use Rattle.register_book.specs.Fault.{ops_in_roles};
 ghost use Rattle.ci_forms.specs.Facts.{facts_of, concatenated};
-ghost use Rattle.ci_forms.specs.Junit.{break_case, break_case_of, break_cases, break_part, case_head, cases_for_few, errors_of, failure_head, failure_part, failure_type, failures_of, few_case, junit_text, level_at, line_part, numbered, place_line, register_case, register_cases, shown_part, shown_part_of, shown_parts, shown_text, suite_head, tests_of, type_part, verdict_part};
+ghost use Rattle.ci_forms.specs.Junit.{break_case, break_case_of, break_cases, break_part, case_head, cases_for_few, errors_of, failure_head, failure_part, failure_type, failures_of, few_case, junit_text, level_at, line_part, with_number, place_line, register_case, register_cases, shown_part, shown_part_of, shown_parts, shown_text, suite_head, tests_of, type_part, verdict_part};
 
 use crate::facts::{first_rested, is_to_blame, op_line, push_break, push_why, trace_name};
 use crate::few::few_lines;
@@ -90,15 +90,15 @@ fn push_counts(
 ) -> Result<(), AllocError>
     ensures { OnOk result (string_bytes text.new ≡ string_bytes text.old ++ suite_head tests failures errors) }
 {
-    push_numbered(text, TESTS, tests)?;
-    push_numbered(text, FAILURES, failures)?;
-    push_numbered(text, ERRORS, errors)?;
+    push_with_number(text, TESTS, tests)?;
+    push_with_number(text, FAILURES, failures)?;
+    push_with_number(text, ERRORS, errors)?;
     text.push_str(SKIPPED)
 }
 
 /// A text, and a number after it.
-fn push_numbered(text: &mut String, before: &str, number: u128) -> Result<(), AllocError>
-    ensures { OnOk result (string_bytes text.new ≡ string_bytes text.old ++ numbered before.now number) }
+fn push_with_number(text: &mut String, before: &str, number: u128) -> Result<(), AllocError>
+    ensures { OnOk result (string_bytes text.new ≡ string_bytes text.old ++ with_number before.now number) }
 {
     text.push_str(before)?;
     write!(text, "{number}")
