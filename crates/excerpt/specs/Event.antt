@@ -24,9 +24,9 @@ moment_keyword Index = codes ":index"
 moment_keyword Time = codes ":time"
 
 -- a value, as it is written
-abbrev pub value_text : Value → List ℕ
-value_text Nil = codes "nil"
-value_text (Int number) = signed_decimal number
+abbrev pub written_value : Value → List ℕ
+written_value Nil = codes "nil"
+written_value (Int number) = signed_decimal number
 
 -- the value of an invocation: what is to be written, and nil of a read
 abbrev pub invoked_value : Act → Value
@@ -42,7 +42,7 @@ moment_text field (Some moment) = codes " " ++ moment_keyword field ++ codes " "
 abbrev pub event_text : MomentField → List ℕ → ℤ → List ℕ → Act → Value → Option ℕ → List ℕ
 event_text field name process kind act value moment =
     codes "{:process " ++ signed_decimal process ++ codes " :type " ++ kind ++ codes " :f " ++ act_keyword act ++ codes " :value ["
-    ++ name ++ codes " " ++ value_text value ++ codes "]" ++ moment_text field moment ++ codes "}\n"
+    ++ name ++ codes " " ++ written_value value ++ codes "]" ++ moment_text field moment ++ codes "}\n"
 
 -- the last event of an operation: its answer, or that nobody knows how it went on
 abbrev pub answer_text : MomentField → List ℕ → ℤ → Act → Option Moment → List ℕ
@@ -50,8 +50,8 @@ answer_text field name process act None = event_text field name process (codes "
 answer_text field name process act (Some end) = event_text field name process (codes ":ok") act (value_of act) (Some end.0)
 
 -- the two events of an operation
-abbrev pub operation_text : MomentField → List ℕ → Op → List ℕ
-operation_text field name op =
+abbrev pub operation_events : MomentField → List ℕ → Op → List ℕ
+operation_events field name op =
     event_text field name op.process (codes ":invoke") op.act (invoked_value op.act) (Some op.begin.0) ++ answer_text field name op.process op.act op.end
 
 -- the edit that claims this kind for the register of this name

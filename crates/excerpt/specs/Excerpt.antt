@@ -20,8 +20,8 @@ use Rattle.report.specs.declared.finding.Finding.{Finding}
 use Rattle.report.specs.Finding.{AreFindings}
 use Rattle.report.specs.Refused.{refused}
 use Rattle.report.specs.Summary.{is_broken}
-use Rattle.excerpt.specs.Event.{claim_text, operation_text}
-use Rattle.excerpt.specs.Shown.{IsShown}
+use Rattle.excerpt.specs.Event.{claim_text, operation_events}
+use Rattle.excerpt.specs.Shown.{AreShown}
 
 -- the edit that claims the kind by which the register of this name is judged, where its tower says another one
 abbrev pub claimed_text : List ℕ → Kind → Kind → List ℕ
@@ -32,7 +32,7 @@ claimed_text name said kind = if bytes_eq (kind_word kind) (kind_word said) then
 abbrev pub IsPartBy : MomentField → List ℕ → Kind → List Op → Kind → Option Witness → List ℕ → Type 0
 IsPartBy field name said ops kind None text = text ≡ []
 IsPartBy field name said ops kind (Some witness) text =
-    (shown : List Op) × IsShown ops witness shown × (text ≡ claimed_text name said kind ++ flat_map (operation_text field name) shown)
+    (shown : List Op) × AreShown ops witness shown × (text ≡ claimed_text name said kind ++ flat_map (operation_events field name) shown)
 
 -- the same of a register of a tower and its book; nothing where one of them is not there
 abbrev pub IsPartIn : MomentField → Option Register → Option RegisterState → Finding → List ℕ → Type 0

@@ -16,12 +16,12 @@ abbrev pub has_value_of : List Op → Op → Bool
 has_value_of ops op = list_any (λ other. same_value (value_of other.act) (value_of op.act)) ops
 
 -- this operation is one of these, by its id
-abbrev pub is_among : List Op → Op → Bool
-is_among ops op = list_any (λ other. same_id other.id op.id) ops
+abbrev pub is_one_of : List Op → Op → Bool
+is_one_of ops op = list_any (λ other. same_id other.id op.id) ops
 
 -- a write of the value of one of these operations, and none of them
 abbrev pub is_their_write : List Op → Op → Bool
-is_their_write shown op = is_write op && has_value_of shown op && not (is_among shown op)
+is_their_write shown op = is_write op && has_value_of shown op && not (is_one_of shown op)
 
 -- the writes of their values that are none of these operations, and these
 abbrev pub with_writes : List Op → List Op → List Op
@@ -39,7 +39,7 @@ IsFound ops (Wrong read) found = (around : WritesAround) × AreAround ops read a
 IsFound ops witness found = found ≡ with_writes ops (ops_in_roles (roles_of witness))
 
 -- these are those operations, each once, by beginning
-pub record IsShown (ops : List Op) (witness : Witness) (shown : List Op) : Type 0 where
+pub record AreShown (ops : List Op) (witness : Witness) (shown : List Op) : Type 0 where
   pub found : List Op
   pub are : IsFound ops witness found
   pub each_once : IsPermutation found shown

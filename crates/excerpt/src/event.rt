@@ -4,7 +4,7 @@ ghost use Rattle.std.specs.Prelude.{◌≡◌, ◌++◌, IfOk, List, OnOk, Some,
 ghost use Rattle.std.specs.Fmt.{signed_decimal};
 ghost use Rattle.jepsen_form.specs.declared.item.MomentField.{MomentField as AField};
 ghost use Rattle.phrases.specs.Names.{kind_word};
-ghost use Rattle.excerpt.specs.Event.{act_keyword, answer_text, claim_text, event_text, invoked_value, moment_keyword, moment_text, operation_text, value_text};
+ghost use Rattle.excerpt.specs.Event.{act_keyword, answer_text, claim_text, event_text, invoked_value, moment_keyword, moment_text, operation_events, written_value};
 
 use intervals::{Act, Kind, Op, Value};
 use jepsen_form::MomentField;
@@ -35,7 +35,7 @@ pub fn push_operation(
     shared: Shared,
     op: &Op,
 ) -> Result<(), AllocError>
-    ensures { OnOk result (text.new.items ≡ text.old.items ++ operation_text shared.entry.moments shared.entry.name.now op.now) }
+    ensures { OnOk result (text.new.items ≡ text.old.items ++ operation_events shared.entry.moments shared.entry.name.now op.now) }
 {
     push_event(alloc, text, shared, invocation_of(op))?;
     push_event(alloc, text, shared, answer_of(op))
@@ -118,7 +118,7 @@ fn after_name(
     moments: MomentField,
     event: PrintedEvent,
 ) -> Result<String, AllocError>
-    ensures { IfOk result (λ text. string_bytes text ≡ codes " " ++ value_text event.value ++ codes "]" ++ moment_text moments event.moment ++ codes "}\n") }
+    ensures { IfOk result (λ text. string_bytes text ≡ codes " " ++ written_value event.value ++ codes "]" ++ moment_text moments event.moment ++ codes "}\n") }
 {
     let mut text = String::new(alloc);
     text.push_str(" ")?;
@@ -130,7 +130,7 @@ fn after_name(
 }
 
 fn push_value(text: &mut String, value: Value) -> Result<(), AllocError>
-    ensures { OnOk result (string_bytes text.new ≡ string_bytes text.old ++ value_text value) }
+    ensures { OnOk result (string_bytes text.new ≡ string_bytes text.old ++ written_value value) }
 {
     match value {
         Value::Nil => text.push_str("nil"),

@@ -6,7 +6,7 @@ ghost use Rattle.intervals.specs.Table.{ops_in_slots};
 ghost use Rattle.std.specs.Io.KnownBytes.{Appends};
 ghost use Rattle.report.specs.Finding.{IsOfTower};
 ghost use Rattle.shards.specs.Closing.{book_of};
-ghost use Rattle.excerpt.specs.Event.{operation_text};
+ghost use Rattle.excerpt.specs.Event.{operation_events};
 ghost use Rattle.excerpt.specs.Excerpt.{AreParts, FailsAlike, IsTextOfExcerpt, IsPartBy, IsPartIn};
 
 use crate::alike::all_alike;
@@ -177,7 +177,7 @@ fn push_operations(
     shared: Shared,
     ops: &[Op],
 ) -> Result<(), AllocError>
-    ensures { OnOk result (text.new.items ≡ text.old.items ++ flat_map (operation_text shared.entry.moments shared.entry.name.now) ops.now) }
+    ensures { OnOk result (text.new.items ≡ text.old.items ++ flat_map (operation_events shared.entry.moments shared.entry.name.now) ops.now) }
 {
     for op in ops {
         push_operation(alloc, text, shared, op)?;

@@ -5,7 +5,7 @@ ghost use Rattle.std.specs.Option.{option_to_list};
 ghost use Rattle.intervals.specs.Table.{ops_in_slots};
 ghost use Rattle.register_book.specs.declared.fault.Witness.TheVariants.{Wrong};
 ghost use Rattle.register_book.specs.Fault.{ops_in_roles};
-ghost use Rattle.excerpt.specs.Shown.{IsFound, IsShown, has_value_of, is_among, is_their_write, told_by, with_writes};
+ghost use Rattle.excerpt.specs.Shown.{IsFound, AreShown, has_value_of, is_one_of, is_their_write, told_by, with_writes};
 
 use intervals::{Op, is_same_value};
 use register_book::{InRole, Witness, WritesAround, writes_around};
@@ -17,7 +17,7 @@ pub fn shown_of<'t>(
     slots: &[Option<Op<'t>>],
     witness: &Witness<'t>,
 ) -> Result<Vec<Op<'t>>, AllocError>
-    ensures { IfOk result (λ shown. IsShown (ops_in_slots slots.now) witness.now shown.items) }
+    ensures { IfOk result (λ shown. AreShown (ops_in_slots slots.now) witness.now shown.items) }
 {
     let mut shown = found_of(alloc, slots, witness)?;
     shown.sort_unstable_by_key(|op| op.begin.0);
@@ -120,7 +120,7 @@ fn writes_of<'t>(
 fn is_their_write(shown: &[Op], op: &Op) -> bool
     ensures { result ≡ is_their_write shown.now op.now }
 {
-    op.is_write() && has_value_of(shown, op) && !is_among(shown, op)
+    op.is_write() && has_value_of(shown, op) && !is_one_of(shown, op)
 }
 
 fn has_value_of(ops: &[Op], op: &Op) -> bool
@@ -130,8 +130,8 @@ fn has_value_of(ops: &[Op], op: &Op) -> bool
         .any(|other| is_same_value(other.value(), op.value()))
 }
 
-fn is_among(ops: &[Op], op: &Op) -> bool
-    ensures { result ≡ is_among ops.now op.now }
+fn is_one_of(ops: &[Op], op: &Op) -> bool
+    ensures { result ≡ is_one_of ops.now op.now }
 {
     ops.iter().any(|other| other.has_id(op.id))
 }
