@@ -11,6 +11,7 @@ use Rattle.logs.specs.declared.log.What.TheVariants as whats
 use Rattle.lint.specs.declared.finding.Amiss.TheVariants as amiss
 use Rattle.lint.specs.declared.finding.Problem.{Problem}
 use Rattle.lint.specs.declared.finding.TraceFindings.{TraceFindings}
+use Rattle.lint.specs.LeftWith.{left_with_line}
 use Rattle.places.specs.declared.location.Location.{Location}
 use Rattle.places.specs.LineColumn.{first_place}
 use Rattle.places.specs.Location.{element_spot, spot_of_byte}
@@ -38,13 +39,15 @@ abbrev pub NamesElements : List ℕ → Log → Type 0
 NamesElements text log = (pieces : List ElementModel) → AreElementsBefore text pieces → All (λ line. line.event < length pieces) log.lines.items
 
 -- what is found in a trace by its log: the spots of its elements (those before its fault), a finding for each refusal
--- at the spot of its element, in order, and one where it broke, if it did
+-- at the spot of its element, in order, and one where it broke, if it did; and for each refusal the invocation with which
+-- its element was left out, if it was left out with one
 pub record IsFoundIn (text : List ℕ) (log : Log) (found : TraceFindings) : Type 0 where
   pub pieces : List ElementModel
   pub are : AreElementsBefore text pieces
   pub spots : found.spots.items ≡ map (element_spot text) pieces
   pub named : All (λ line. line.event < length pieces) log.lines.items
   pub findings : found.findings.items ≡ flat_map (found_of_line found.spots.items) log.lines.items ++ found_of_break text log.broken
+  pub left_with : found.left_with.items ≡ flat_map (left_with_line log.lines.items) log.lines.items
 
 -- what is found in each of several traces, by their logs
 abbrev pub AreFoundIn : List (List ℕ) → List Log → List TraceFindings → Type 0

@@ -1,4 +1,5 @@
 -- words of the public clauses
+pub mod LeftWith
 pub mod Found
 pub mod Idle
 pub mod Grade
@@ -7,3 +8,5 @@ pub mod Head
 pub mod Quoted
 pub mod Short
 pub mod Tower
+-- words of private clauses
+pub mod Marked

@@ -8,6 +8,7 @@ ghost use Rattle.lint.specs.Idle.{is_unused, unused_among};
 ghost use Rattle.lint.specs.Found.{AreFoundIn, IsFoundIn, NamesElements, found_of_break, found_of_line};
 
 use crate::finding::{Amiss, Findings, Problem, TraceFindings};
+use crate::missing::left_with_each;
 use crate::notes::{Context, Noted, notes_of};
 use crate::suspect::Suspects;
 use intervals::RegId;
@@ -93,6 +94,7 @@ fn find_in(context: &Context, text: &[u8], log: &Log) -> Result<TraceFindings, A
     let mut findings = Vec::new(context.alloc);
     push_lines(&mut findings, found.spots.as_slice(), log.lines.as_slice())?;
     push_break(&mut findings, text, log.broken)?;
+    let left_with = left_with_each(context.alloc, log.lines.as_slice(), found.spots.len())?;
     let Noted {
         notes,
         unfinished,
@@ -106,6 +108,7 @@ fn find_in(context: &Context, text: &[u8], log: &Log) -> Result<TraceFindings, A
         unfinished,
         processes,
         waiting,
+        left_with,
     })
 }
 

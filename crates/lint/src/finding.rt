@@ -99,6 +99,8 @@ pub struct TraceFindings {
     pub processes: BTreeSet<i64>,
     /// For each element, the invocation that its process waited for an answer to, before it.
     pub waiting: Vec<Option<u64>>,
+    /// For each refusal, in the order of `findings`, the invocation with which the element was left out.
+    pub left_with: Vec<Option<u64>>,
 }
 
 /// What is found in all traces, by number.

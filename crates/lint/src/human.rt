@@ -1,7 +1,7 @@
 //! Findings as people read them, each with the line that it is in.
 
 use crate::bracket::{innermost_open, next_map_line};
-use crate::finding::{Amiss, Findings, Grade, Note, Problem};
+use crate::finding::{Amiss, Findings, Grade, Note, Problem, TraceFindings};
 use crate::head::{push_head, push_place};
 use crate::hint::hint_of;
 use crate::message::{field_word, push_id, tower_word};
@@ -12,6 +12,7 @@ use crate::suggest::{
     instead_in_element, meant_in_element, meant_in_tower, meant_key, meant_key_of,
 };
 use crate::tally::{Count, Tally};
+use crate::together::{Together, invocation_with, together_in};
 use edn_reader::EdnFault;
 use intervals::{Holder, OpId, Refusal};
 use jepsen_form::FormFault;
@@ -24,12 +25,14 @@ use tower_file::TowerFault;
 /// For how many findings of each code, at most, a word is suggested that may have been meant.
 const SUGGESTED: usize = 3;
 
-/// What is printed from: the files, what was found in them, and how many of each code are shown.
+/// What is printed from: the files, what was found in them, what of it is in other blocks, and how many of each code are
+/// shown.
 #[derive(Clone, Copy)]
 struct View<'a> {
     alloc: Global,
     sources: &'a [SourceText<'a>],
     found: &'a Findings,
+    together: &'a [Together],
     most: usize,
 }
 
@@ -52,10 +55,12 @@ pub fn push_human(
     found: &Findings,
     most: usize,
 ) -> Result<(), AllocError> {
+    let together = together_in(alloc, found)?;
     let view = View {
         alloc,
         sources,
         found,
+        together: together.as_slice(),
         most,
     };
     let mut tally = Tally::of(alloc, found)?;
@@ -80,9 +85,9 @@ fn push_trace(
     }
     push_hints(text, view, trace, found.spots.is_empty())?;
     let (first, others) = rests_and_others(found.notes.as_slice());
-    push_cases(text, view, trace, first, tally)?;
-    push_cases(text, view, trace, found.findings.as_slice(), tally)?;
-    push_cases(text, view, trace, others, tally)
+    push_notes(text, view, trace, first, tally)?;
+    push_problems(text, view, trace, found, tally)?;
+    push_notes(text, view, trace, others, tally)
 }
 
 /// The notes that say what a failure rests on, which come first, and the others.
@@ -131,31 +136,59 @@ fn is_given_before(sources: &[SourceText], trace: usize, text: &[u8]) -> bool {
     false
 }
 
-fn push_cases<'a>(
+/// Adds the findings that have a block of their own.
+fn push_problems<'a>(
     text: &mut String,
     view: &View<'a>,
     trace: usize,
-    findings: &'a [Problem],
+    found: &'a TraceFindings,
     tally: &mut Tally,
 ) -> Result<(), AllocError> {
-    let Some(source) = view.sources.get(trace) else {
-        return Ok(());
-    };
-    for finding in findings {
-        if let Some(count) = tally.show(finding.what.code(), view.most) {
-            let case = Case {
-                view,
-                trace,
-                source,
-                finding,
-                width: width_of(last_line(view, trace, finding)),
-                before: count.shown.saturating_sub(1),
-            };
-            push_case(text, &case)?;
-            push_left(text, case.width, &count, view.most)?;
+    for at in 0..found.findings.len() {
+        if invocation_with(found, at).is_none() {
+            push_shown(text, view, trace, &found.findings[at], tally)?;
         }
     }
     Ok(())
+}
+
+fn push_notes<'a>(
+    text: &mut String,
+    view: &View<'a>,
+    trace: usize,
+    notes: &'a [Problem],
+    tally: &mut Tally,
+) -> Result<(), AllocError> {
+    for note in notes {
+        push_shown(text, view, trace, note, tally)?;
+    }
+    Ok(())
+}
+
+/// Adds a finding, unless as many of its code were shown as are.
+fn push_shown<'a>(
+    text: &mut String,
+    view: &View<'a>,
+    trace: usize,
+    finding: &'a Problem,
+    tally: &mut Tally,
+) -> Result<(), AllocError> {
+    let (Some(source), Some(count)) = (
+        view.sources.get(trace),
+        tally.show(finding.what.code(), view.most),
+    ) else {
+        return Ok(());
+    };
+    let case = Case {
+        view,
+        trace,
+        source,
+        finding,
+        width: width_of(last_line(view, trace, finding)),
+        before: count.shown.saturating_sub(1),
+    };
+    push_case(text, &case)?;
+    push_left(text, case.width, &count, view.most)
 }
 
 fn push_case(text: &mut String, case: &Case) -> Result<(), AllocError> {
@@ -204,9 +237,21 @@ fn push_refused(text: &mut String, case: &Case, event: u64, code: &Code) -> Resu
     push_met(text, case, first)?;
     push_met(text, case, second)?;
     push_marked(text, case, " left out")?;
+    push_left_with(text, case, event)?;
     push_suggestion(text, case, code)?;
     text.push_str("\n")?;
     push_covered(text, case, code)
+}
+
+/// What was left out with a refused invocation, behind its mark.
+fn push_left_with(text: &mut String, case: &Case, event: u64) -> Result<(), AllocError> {
+    let Some(together) = case.view.together.get(case.trace) else {
+        return Ok(());
+    };
+    match together.left_with(event) {
+        Some(left) => left.push(text),
+        None => Ok(()),
+    }
 }
 
 /// Where the first element of another `:f` is left out: what the verdict of its register does not cover.

@@ -12,12 +12,13 @@
 //!
 //! What is taken as it is and may not be meant is noted (L1 to L8); a note changes the status only where it is
 //! denied. `notes.rt` looks at the elements, `suspect.rt` at the operations that show that registers fail, and
-//! `tower.rt` at the tower file, whose fault it makes a finding.
+//! `tower.rt` at the tower file, whose fault it makes a finding. `together.rt` has what people read in the block of
+//! another finding.
 //!
 //! Begin with `find::lint_traces`: its clause names what is found by the logs of a run (`specs/Found.antt`): one
-//! finding for each refusal and for each break, and no others. `specs/Grade.antt` has the status, and
-//! `specs/Short.antt` the form with a line for each finding; `places` has lines, columns and the spot of an element.
-//! The other forms are tested by `rows`.
+//! finding for each refusal and for each break, and no others. `specs/LeftWith.antt` has what was left out with a refused
+//! invocation, `specs/Grade.antt` the status, and `specs/Short.antt` the form with a line for each finding; `places` has
+//! lines, columns and the spot of an element. The other forms are tested by `rows`.
 #![tactic(auto)]
 
 mod bracket;
@@ -29,6 +30,7 @@ mod hint;
 mod human;
 mod json;
 mod message;
+mod missing;
 mod nearest;
 mod notes;
 mod print;
@@ -40,6 +42,7 @@ mod source;
 mod suggest;
 mod suspect;
 mod tally;
+mod together;
 mod tower;
 
 pub use find::lint_traces;

@@ -1,23 +1,33 @@
-//! How many findings of each code there are, and how many of them were shown.
+//! How many findings of each code there are, and how many of them were shown in a block of their own.
 
-use crate::finding::{Findings, Grade, Problem};
+use crate::finding::{Findings, Grade, Problem, TraceFindings};
+use crate::together::invocation_with;
 use std::alloc::{AllocError, Global};
 
-/// The findings of one code: how many there are, and how many of them were shown.
+/// The findings of one code: how many there are, how many have a block of their own, and how many of these were shown.
 #[derive(Clone, Copy)]
 pub struct Count {
     pub code: &'static str,
     pub grade: Grade,
     pub many: usize,
+    pub apart: usize,
     pub shown: usize,
-    /// The line of the last one.
+    /// The line of the last one that has a block of its own.
     pub last: usize,
 }
 
 impl Count {
-    /// How many findings were not shown.
+    /// How many findings that have a block of their own were not shown.
     pub fn left(&self) -> usize {
-        self.many.saturating_sub(self.shown)
+        self.apart.saturating_sub(self.shown)
+    }
+
+    fn add(&mut self, finding: &Problem, is_apart: bool) {
+        self.many = self.many.saturating_add(1);
+        if is_apart {
+            self.apart = self.apart.saturating_add(1);
+            self.last = finding.spot.place.line;
+        }
     }
 }
 
@@ -33,35 +43,44 @@ impl Tally {
             counts: Vec::new(alloc),
         };
         for trace in &found.traces {
-            tally.add_all(trace.findings.as_slice())?;
-            tally.add_all(trace.notes.as_slice())?;
+            tally.add_findings(trace)?;
+            tally.add_notes(trace)?;
         }
         Ok(tally)
     }
 
-    fn add_all(&mut self, findings: &[Problem]) -> Result<(), AllocError> {
-        for finding in findings {
-            self.add(finding)?;
+    fn add_findings(&mut self, found: &TraceFindings) -> Result<(), AllocError> {
+        for at in 0..found.findings.len() {
+            self.add(&found.findings[at], invocation_with(found, at).is_none())?;
         }
         Ok(())
     }
 
-    fn add(&mut self, finding: &Problem) -> Result<(), AllocError> {
+    fn add_notes(&mut self, found: &TraceFindings) -> Result<(), AllocError> {
+        for note in &found.notes {
+            self.add(note, true)?;
+        }
+        Ok(())
+    }
+
+    fn add(&mut self, finding: &Problem, is_apart: bool) -> Result<(), AllocError> {
         let code = finding.what.code();
         for count in self.counts.iter_mut() {
             if count.code == code {
-                count.many = count.many.saturating_add(1);
-                count.last = finding.spot.place.line;
+                count.add(finding, is_apart);
                 return Ok(());
             }
         }
-        self.counts.push(Count {
+        let mut count = Count {
             code,
             grade: finding.what.grade(),
-            many: 1,
+            many: 0,
+            apart: 0,
             shown: 0,
-            last: finding.spot.place.line,
-        })?;
+            last: 0,
+        };
+        count.add(finding, is_apart);
+        self.counts.push(count)?;
         Ok(())
     }
 

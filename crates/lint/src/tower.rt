@@ -110,6 +110,7 @@ fn one_file(
         unfinished: Vec::new(alloc),
         processes: BTreeSet::new(alloc),
         waiting: Vec::new(alloc),
+        left_with: Vec::new(alloc),
     })?;
     Ok(Findings {
         traces,
