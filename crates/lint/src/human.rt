@@ -13,6 +13,7 @@ use crate::suggest::{
 };
 use crate::tally::{Count, Tally};
 use crate::together::{Together, invocation_with, together_in};
+use crate::writers::writers_in;
 use edn_reader::EdnFault;
 use intervals::{Holder, OpId, Refusal};
 use jepsen_form::FormFault;
@@ -36,13 +37,15 @@ struct View<'a> {
     most: usize,
 }
 
-/// A finding, its file, the width of its line numbers, and how many findings of its code were shown before.
+/// A finding, its file, where the tower file says who may write, the width of the line numbers, and how many findings of
+/// the code were shown before.
 #[derive(Clone, Copy)]
 struct Case<'c, 'a> {
     view: &'c View<'a>,
     trace: usize,
     source: &'a SourceText<'a>,
     finding: &'a Problem,
+    writers: Option<Location>,
     width: usize,
     before: usize,
 }
@@ -179,16 +182,43 @@ fn push_shown<'a>(
     ) else {
         return Ok(());
     };
+    let before = count.shown.saturating_sub(1);
+    let writers = writers_for(view, source, finding, before);
+    let last = last_line(view, trace, finding).max(line_at(&writers));
     let case = Case {
         view,
         trace,
         source,
         finding,
-        width: width_of(last_line(view, trace, finding)),
-        before: count.shown.saturating_sub(1),
+        writers,
+        width: width_of(last),
+        before,
     };
     push_case(text, &case)?;
     push_left(text, case.width, &count, view.most)
+}
+
+/// Where the tower file, which is the last one, says who may write, for the first writes by a process that may not.
+fn writers_for(
+    view: &View,
+    source: &SourceText,
+    finding: &Problem,
+    before: usize,
+) -> Option<Location> {
+    match &finding.what {
+        Amiss::Refused(_, Code::Register(Refusal::NotAWriter)) if before < SUGGESTED => {
+            let element = source.text.get(finding.spot.start..finding.spot.end)?;
+            writers_in(view.alloc, view.sources.last()?.text, element)
+        }
+        _ => None,
+    }
+}
+
+fn line_at(spot: &Option<Location>) -> usize {
+    match spot {
+        Some(spot) => spot.place.line,
+        None => 0,
+    }
 }
 
 fn push_case(text: &mut String, case: &Case) -> Result<(), AllocError> {
@@ -240,7 +270,18 @@ fn push_refused(text: &mut String, case: &Case, event: u64, code: &Code) -> Resu
     push_left_with(text, case, event)?;
     push_suggestion(text, case, code)?;
     text.push_str("\n")?;
-    push_covered(text, case, code)
+    push_writers(text, case)?;
+    push_once(text, case, code)
+}
+
+/// Who may write, where a process that may not did.
+fn push_writers(text: &mut String, case: &Case) -> Result<(), AllocError> {
+    let (Some(spot), Some(file)) = (&case.writers, case.view.sources.last()) else {
+        return Ok(());
+    };
+    push_elsewhere(text, case.width, file, spot)?;
+    push_mark(text, case.width, file.text, spot, '-')?;
+    text.push_str(" who may write\n")
 }
 
 /// What was left out with a refused invocation, behind its mark.
@@ -254,16 +295,26 @@ fn push_left_with(text: &mut String, case: &Case, event: u64) -> Result<(), Allo
     }
 }
 
-/// Where the first element of another `:f` is left out: what the verdict of its register does not cover.
-fn push_covered(text: &mut String, case: &Case, code: &Code) -> Result<(), AllocError> {
+/// What is said of the first refusal of a code.
+fn push_once(text: &mut String, case: &Case, code: &Code) -> Result<(), AllocError> {
+    let words = once(case, code);
+    if words.is_empty() {
+        return Ok(());
+    }
+    push_foot(text, case.width)?;
+    text.push_str(words)
+}
+
+/// Of another `:f`, what the verdict of its register does not cover; and without a tower file, who may write.
+fn once(case: &Case, code: &Code) -> &'static str {
     match (code, case.before) {
         (Code::Form(FormFault::UnsupportedF), 0) => {
-            push_foot(text, case.width)?;
-            text.push_str(
-                "only reads and writes are judged: a register that meets another :f is not covered by its verdict\n",
-            )
+            "only reads and writes are judged: a register that meets another :f is not covered by its verdict\n"
         }
-        _ => Ok(()),
+        (Code::Register(Refusal::NotAWriter), 0) if case.writers.is_none() => {
+            "without a tower file only the process that wrote it first may write: name one by --tower\n"
+        }
+        _ => "",
     }
 }
 

@@ -44,6 +44,7 @@ mod suspect;
 mod tally;
 mod together;
 mod tower;
+mod writers;
 
 pub use find::lint_traces;
 pub use finding::{Amiss, Findings, Grade, Note, Problem, Ties, TraceFindings};

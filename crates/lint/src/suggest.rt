@@ -206,7 +206,8 @@ fn lacked(code: &Code) -> Option<FormField> {
     }
 }
 
-fn element_in<'t>(alloc: Global, text: &'t [u8]) -> Option<Element<'t>> {
+/// The first element of a text.
+pub fn element_in<'t>(alloc: Global, text: &'t [u8]) -> Option<Element<'t>> {
     match Reader::new(alloc, text).next() {
         Ok(element) => element,
         Err(_) => None,
@@ -231,7 +232,7 @@ fn name_in<'t>(element: &Element<'t>) -> Option<&'t [u8]> {
 }
 
 /// The value of a key that a map has once.
-fn under<'t>(element: &Element<'t>, key: &[u8]) -> Option<Element<'t>> {
+pub fn under<'t>(element: &Element<'t>, key: &[u8]) -> Option<Element<'t>> {
     match element.as_map()?.field(key) {
         Field::Once(value) => Some(value),
         Field::Absent | Field::Twice => None,

@@ -260,7 +260,7 @@ fn push_names<'t>(names: &mut Vec<&'t [u8]>, level: &Element<'t>) -> Result<(), 
 }
 
 /// The elements of the vector that a map has under a key; none unless the map has that key once.
-fn members_of<'t>(map: &Element<'t>, key: &[u8]) -> Option<VectorView<'t>> {
+pub fn members_of<'t>(map: &Element<'t>, key: &[u8]) -> Option<VectorView<'t>> {
     let Some(map) = map.as_map() else {
         return None;
     };
