@@ -12,7 +12,7 @@ use crate::suggest::{
     instead_in_element, meant_in_element, meant_in_tower, meant_key, meant_key_of,
 };
 use crate::tally::{Count, Tally};
-use crate::together::{Together, invocation_with, together_in};
+use crate::together::{Together, invocation_with, is_in_block, together_in};
 use crate::writers::writers_in;
 use edn_reader::EdnFault;
 use intervals::{Holder, OpId, Refusal};
@@ -66,7 +66,7 @@ pub fn push_human(
         together: together.as_slice(),
         most,
     };
-    let mut tally = Tally::of(alloc, found)?;
+    let mut tally = Tally::of(alloc, found, together.as_slice())?;
     for trace in 0..found.traces.len() {
         push_trace(text, &view, trace, &mut tally)?;
     }
@@ -88,9 +88,9 @@ fn push_trace(
     }
     push_hints(text, view, trace, found.spots.is_empty())?;
     let (first, others) = rests_and_others(found.notes.as_slice());
-    push_notes(text, view, trace, first, tally)?;
+    push_notes(text, view, trace, first, 0, tally)?;
     push_problems(text, view, trace, found, tally)?;
-    push_notes(text, view, trace, others, tally)
+    push_notes(text, view, trace, others, first.len(), tally)
 }
 
 /// The notes that say what a failure rests on, which come first, and the others.
@@ -155,15 +155,19 @@ fn push_problems<'a>(
     Ok(())
 }
 
+/// Adds the notes that have a block of their own. So many notes of the trace come before these.
 fn push_notes<'a>(
     text: &mut String,
     view: &View<'a>,
     trace: usize,
     notes: &'a [Problem],
+    before: usize,
     tally: &mut Tally,
 ) -> Result<(), AllocError> {
-    for note in notes {
-        push_shown(text, view, trace, note, tally)?;
+    for at in 0..notes.len() {
+        if !is_in_block(view.together, trace, before.saturating_add(at)) {
+            push_shown(text, view, trace, &notes[at], tally)?;
+        }
     }
     Ok(())
 }
@@ -318,29 +322,29 @@ fn once(case: &Case, code: &Code) -> &'static str {
     }
 }
 
-/// What a refused element may have meant, behind its mark, for the first findings of each code. The last file, after the
-/// traces, is the tower file.
+/// What a refused element may have meant, behind its mark: its key for a field that it lacks, and for the first findings
+/// of each code a word. The last file, after the traces, is the tower file.
 fn push_suggestion(text: &mut String, case: &Case, code: &Code) -> Result<(), AllocError> {
     let alloc = case.view.alloc;
     let (Some(element), Some(last)) = (refused_text(case), case.view.sources.last()) else {
         return Ok(());
     };
-    if let Some(word) = meant_in_element(alloc, element, code, last.text)? {
-        text.push_str(":")?;
-        return push_meant(text, word);
-    }
     if let Some((key, field)) = meant_key_of(alloc, element, code)? {
         text.push_str(":")?;
         return push_unread(text, key, field);
     }
+    if case.before >= SUGGESTED {
+        return Ok(());
+    }
+    if let Some(word) = meant_in_element(alloc, element, code, last.text)? {
+        text.push_str(":")?;
+        return push_meant(text, word);
+    }
     text.push_str(instead_in_element(alloc, element, code))
 }
 
-/// The text of a refused element of which something is suggested.
+/// The text of a refused element.
 fn refused_text<'a>(case: &Case<'_, 'a>) -> Option<&'a [u8]> {
-    if case.before >= SUGGESTED {
-        return None;
-    }
     let spot = &case.finding.spot;
     case.source.text.get(spot.start..spot.end)
 }

@@ -195,7 +195,7 @@ pub fn meant_key_of<'t>(
 }
 
 /// The field that an element lacks by its code, where other keys may be near it.
-fn lacked(code: &Code) -> Option<FormField> {
+pub fn lacked(code: &Code) -> Option<FormField> {
     match code {
         Code::Form(
             FormFault::MissingField(

@@ -1,7 +1,7 @@
 //! How many findings of each code there are, and how many of them were shown in a block of their own.
 
 use crate::finding::{Findings, Grade, Problem, TraceFindings};
-use crate::together::invocation_with;
+use crate::together::{Together, invocation_with, is_in_block};
 use std::alloc::{AllocError, Global};
 
 /// The findings of one code: how many there are, how many have a block of their own, and how many of these were shown.
@@ -38,13 +38,14 @@ pub struct Tally {
 }
 
 impl Tally {
-    pub fn of(alloc: Global, found: &Findings) -> Result<Tally, AllocError> {
+    /// The counts of all findings, of which these are in other blocks, by trace.
+    pub fn of(alloc: Global, found: &Findings, together: &[Together]) -> Result<Tally, AllocError> {
         let mut tally = Tally {
             counts: Vec::new(alloc),
         };
-        for trace in &found.traces {
-            tally.add_findings(trace)?;
-            tally.add_notes(trace)?;
+        for trace in 0..found.traces.len() {
+            tally.add_findings(&found.traces[trace])?;
+            tally.add_notes(&found.traces[trace], together, trace)?;
         }
         Ok(tally)
     }
@@ -56,9 +57,14 @@ impl Tally {
         Ok(())
     }
 
-    fn add_notes(&mut self, found: &TraceFindings) -> Result<(), AllocError> {
-        for note in &found.notes {
-            self.add(note, true)?;
+    fn add_notes(
+        &mut self,
+        found: &TraceFindings,
+        together: &[Together],
+        trace: usize,
+    ) -> Result<(), AllocError> {
+        for at in 0..found.notes.len() {
+            self.add(&found.notes[at], !is_in_block(together, trace, at))?;
         }
         Ok(())
     }

@@ -1,7 +1,11 @@
 //! What people read in the block of another finding, and not in one of its own: an element that was left out with a
-//! refused invocation is in the block of that invocation.
+//! refused invocation is in the block of that invocation, and a key that may be meant for the field that a refused
+//! element lacks in the block of that element.
 
-use crate::finding::{Amiss, Findings, Problem, TraceFindings};
+use crate::finding::{Amiss, Findings, Note, Problem, TraceFindings};
+use crate::message::field_word;
+use crate::suggest::lacked;
+use jepsen_form::FormField;
 use std::alloc::{AllocError, Global};
 use std::collections::BTreeMap;
 
@@ -18,6 +22,8 @@ pub struct LeftWith {
 pub struct Together {
     /// What was left out with each invocation.
     left: BTreeMap<u64, LeftWith>,
+    /// For each note, whether it is in another block.
+    notes: Vec<bool>,
 }
 
 /// What of each trace is in other blocks.
@@ -33,6 +39,7 @@ impl Together {
     fn of(alloc: Global, found: &TraceFindings) -> Result<Together, AllocError> {
         let mut together = Together {
             left: BTreeMap::new(alloc),
+            notes: notes_in(alloc, found)?,
         };
         for at in 0..found.findings.len() {
             if let Some(invocation) = invocation_with(found, at) {
@@ -59,6 +66,63 @@ impl Together {
     pub fn left_with(&self, event: u64) -> Option<LeftWith> {
         self.left.get(&event).copied()
     }
+
+    fn has_note(&self, at: usize) -> bool {
+        match self.notes.get(at) {
+            Some(is_said) => *is_said,
+            None => false,
+        }
+    }
+}
+
+/// Whether the note of a trace at this place is in the block of a refusal.
+pub fn is_in_block(together: &[Together], trace: usize, at: usize) -> bool {
+    match together.get(trace) {
+        Some(together) => together.has_note(at),
+        None => false,
+    }
+}
+
+/// For each note of a trace, whether it is in another block.
+fn notes_in(alloc: Global, found: &TraceFindings) -> Result<Vec<bool>, AllocError> {
+    let mut lacking = lacking_in(alloc, found)?;
+    let mut notes = Vec::new(alloc);
+    for note in &found.notes {
+        notes.push(is_said(&mut lacking, note))?;
+    }
+    Ok(notes)
+}
+
+/// The field that each element lacks, where it is refused for that and other keys may be near it.
+fn lacking_in(
+    alloc: Global,
+    found: &TraceFindings,
+) -> Result<BTreeMap<u64, FormField>, AllocError> {
+    let mut lacking = BTreeMap::new(alloc);
+    for finding in &found.findings {
+        if let Amiss::Refused(event, code) = &finding.what {
+            if let Some(field) = lacked(code) {
+                lacking.insert(*event, field)?;
+            }
+        }
+    }
+    Ok(lacking)
+}
+
+/// Whether the block of a refused element has this note: it is the first of the key that may be meant for what the
+/// element lacks.
+fn is_said(lacking: &mut BTreeMap<u64, FormField>, note: &Problem) -> bool {
+    let Amiss::Noted(Some(event), Note::NearField(field)) = &note.what else {
+        return false;
+    };
+    let Some(lacked) = lacking.get(event).copied() else {
+        return false;
+    };
+    if field_word(lacked) != field_word(*field) {
+        return false;
+    }
+    let _ = lacking.remove(event);
+    true
 }
 
 /// The invocation with which the element of this finding was left out, in whose block it is then.
