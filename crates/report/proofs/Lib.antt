@@ -11,6 +11,8 @@ pub mod Crosses
 pub mod Batches
 -- the refusals by code come to all refusals
 pub mod Refusals
+-- the codes of refusals by frequency
+pub mod Frequency
 -- what is in doubt: the elements that were left out are noted of their registers
 pub mod Doubts
 -- a change of a verdict says enough of its fault to say what that rests on

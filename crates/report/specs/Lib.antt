@@ -16,3 +16,4 @@ pub mod Doubt
 pub mod Doubted
 -- words of private clauses
 pub mod Doubting
+pub mod Tallied

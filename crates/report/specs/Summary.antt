@@ -1,5 +1,5 @@
 -- The text of a summary.
-use Rattle.std.specs.Prelude.{◌≡◌, ℕ, Bool, true, false, List, [], ◌∷◌, ◌++◌, ◌&&◌, flat_map, filter, length, take, is_some, is_none, codes, nat_eq, if◌then◌else◌, count_by}
+use Rattle.std.specs.Prelude.{◌≡◌, ℕ, Bool, true, false, List, [], ◌∷◌, ◌++◌, ◌&&◌, flat_map, filter, length, map, not, take, is_some, is_none, codes, nat_eq, if◌then◌else◌, count_by}
 use Rattle.std.specs.Option.{option_map_or}
 use Rattle.std.specs.List.{range_with_len, slice_get}
 use Rattle.std.specs.Fmt.{decimal}
@@ -20,7 +20,7 @@ use Rattle.report.specs.Doubted.{doubted_text}
 use Rattle.report.specs.Few.{few_text, operations}
 use Rattle.report.specs.declared.few.Least.{Least}
 use Rattle.report.specs.Failing.{blamed_line, ids_of_tower, lines_text, more_text, other_line, others_of}
-use Rattle.report.specs.Refused.{refused, refused_text}
+use Rattle.report.specs.Refused.{in_a_row, refused, refused_text}
 
 -- a number and a word, which gets an s unless the number is 1
 abbrev pub counted : ℕ → List ℕ → List ℕ
@@ -87,9 +87,21 @@ same_kind Atomic Atomic = true
 abbrev pub holds_as : Kind → Finding → Bool
 holds_as kind finding = is_none finding.witness && same_kind finding.kind kind
 
+-- how many registers of this kind hold
+abbrev pub many_held_as : List Finding → Kind → ℕ
+many_held_as findings kind = count_by (holds_as kind) findings
+
+-- some register of this kind holds
+abbrev pub is_held_as : List Finding → Kind → Bool
+is_held_as findings kind = not (nat_eq (many_held_as findings kind) 0)
+
 -- how many registers of this kind hold, in the line of those that hold
 abbrev pub kind_text : List Finding → Kind → List ℕ
-kind_text findings kind = decimal (count_by (holds_as kind) findings) ++ codes " " ++ kind_word kind
+kind_text findings kind = decimal (many_held_as findings kind) ++ codes " " ++ kind_word kind
+
+-- how many registers of each of these kinds hold, where any does, the first after this text
+abbrev pub some_kinds_text : List Finding → List ℕ → List Kind → List ℕ
+some_kinds_text findings before kinds = in_a_row before (map (kind_text findings) (filter (is_held_as findings) kinds))
 
 -- the register is there and has no operation
 abbrev pub is_idle : List Finding → RegId → Bool
@@ -115,9 +127,9 @@ idle_count_text many = codes "; " ++ decimal many ++ codes " without any operati
 abbrev pub idle_text : TowerModel → List RegId → List ℕ
 idle_text tower idle = if nat_eq (length idle) 0 then [] else idle_count_text (length idle) ++ names_text tower idle
 
--- how many registers of each kind hold, in the line of those that hold
+-- how many registers of each kind hold, where any does, in the line of those that hold
 abbrev pub kinds_text : List Finding → List ℕ
-kinds_text findings = kind_text findings Safe ++ codes ", " ++ kind_text findings Regular ++ codes ", " ++ kind_text findings Atomic
+kinds_text findings = some_kinds_text findings (codes ": ") (Safe ∷ Regular ∷ Atomic ∷ [])
 
 -- the register holds, by what is found of it
 abbrev pub is_holding : Finding → Bool
@@ -125,9 +137,9 @@ is_holding finding = is_none finding.witness
 
 -- how many registers hold, in the line of those that hold
 abbrev pub held_text : List Finding → List ℕ
-held_text findings = decimal (count_by is_holding findings) ++ codes " hold: "
+held_text findings = decimal (count_by is_holding findings) ++ codes " hold"
 
--- the line of the registers that hold: how many, of each kind, and those without any operation
+-- the line of the registers that hold: how many, of each kind that any is of, and those without any operation
 abbrev pub holding_text : TowerModel → List Finding → List ℕ
 holding_text tower findings = held_text findings ++ kinds_text findings ++ idle_text tower (idle_of tower findings) ++ 10 ∷ []
 

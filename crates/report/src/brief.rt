@@ -1,11 +1,12 @@
 //! The summary of a run.
 
-ghost use Rattle.std.specs.Prelude.{◌≡◌, ◌++◌, Err, IfOk, OnOk, List, ℕ, count_by, flat_map, length, string_bytes};
+ghost use Rattle.std.specs.Prelude.{◌≡◌, ◌++◌, ◌∷◌, Err, IfOk, OnOk, List, ℕ, count_by, flat_map, length, string_bytes};
 ghost use Rattle.std.specs.Io.KnownBytes.{Appends};
+ghost use Rattle.intervals.specs.declared.claim.Kind.{Kind};
 ghost use Rattle.report.specs.Culprit.{culprits_of};
 ghost use Rattle.report.specs.Doubted.{doubted_text};
 ghost use Rattle.report.specs.Finding.{IsOfTower};
-ghost use Rattle.report.specs.Summary.{IsSummary, amiss_text, culprit_count_text, breaks_text, break_line, breaks_at, broken_of, broken_text, counted, ends_text, failed_text, failing_lines, failing_text, first_line, held_text, holding_text, holds_as, idle_count_text, idle_of, idle_text, is_broken, is_failing, is_idle, kind_text, kinds_text, name_text, names_text, over_text, refusals_text, same_kind, summary_text};
+ghost use Rattle.report.specs.Summary.{IsSummary, amiss_text, culprit_count_text, breaks_text, break_line, breaks_at, broken_of, broken_text, counted, ends_text, failed_text, failing_lines, failing_text, first_line, held_text, holding_text, holds_as, idle_count_text, idle_of, idle_text, is_broken, is_failing, is_idle, kinds_text, many_held_as, name_text, names_text, over_text, refusals_text, same_kind, some_kinds_text, summary_text};
 
 use crate::culprit::culprits_in;
 use crate::doubt::doubts_of;
@@ -93,7 +94,7 @@ fn push_ends(
 ) -> Result<(), AllocError>
     ensures { OnOk result (string_bytes text.new ≡ string_bytes text.old ++ ends_text least findings.now.each.now findings.now.run.now.logs.items) }
 {
-    push_refused(text, &findings.run.logs)?;
+    push_refused(text, alloc, &findings.run.logs)?;
     push_breaks(text, alloc, &findings.run.logs)?;
     push_few(text, least, findings.each)
 }
@@ -233,29 +234,46 @@ fn push_held(text: &mut String, findings: &[Finding]) -> Result<(), AllocError>
         .iter()
         .filter(|finding| finding.witness.is_none())
         .count();
-    write!(text, "{holding} hold: ")
+    write!(text, "{holding} hold")
 }
 
-/// How many registers of each kind hold.
+/// How many registers of each kind hold, where any does.
 fn push_kinds(text: &mut String, findings: &[Finding]) -> Result<(), AllocError>
     ensures { OnOk result (string_bytes text.new ≡ string_bytes text.old ++ kinds_text findings.now) }
 {
-    push_kind(text, findings, Kind::Safe)?;
-    text.push_str(", ")?;
-    push_kind(text, findings, Kind::Regular)?;
-    text.push_str(", ")?;
-    push_kind(text, findings, Kind::Atomic)
+    let before = push_kind(text, ": ", findings, Kind::Safe)?;
+    let before = push_kind(text, before, findings, Kind::Regular)?;
+    push_kind(text, before, findings, Kind::Atomic)?;
+    Ok(())
 }
 
-fn push_kind(text: &mut String, findings: &[Finding], kind: Kind) -> Result<(), AllocError>
-    ensures { OnOk result (string_bytes text.new ≡ string_bytes text.old ++ kind_text findings.now kind) }
+/// How many registers of a kind hold, where any does, after a text; and what comes before the next kind.
+fn push_kind(
+    text: &mut String,
+    before: &'static str,
+    findings: &[Finding],
+    kind: Kind,
+) -> Result<&'static str, AllocError>
+    ensures { IfOk result (λ next. (kinds : List Kind) → string_bytes text.new ++ some_kinds_text findings.now next.now kinds ≡ string_bytes text.old ++ some_kinds_text findings.now before.now (kind ∷ kinds)) }
 {
-    let many = findings
+    let many = count_held_as(findings, kind);
+    if many == 0 {
+        return Ok(before);
+    }
+    text.push_str(before)?;
+    write!(text, "{many} ")?;
+    text.push_str(kind_word(kind))?;
+    Ok(", ")
+}
+
+/// How many registers of a kind hold.
+fn count_held_as(findings: &[Finding], kind: Kind) -> usize
+    ensures { result ≡ many_held_as findings.now kind }
+{
+    findings
         .iter()
         .filter(|finding| holds_as(finding, kind))
-        .count();
-    write!(text, "{many} ")?;
-    text.push_str(kind_word(kind))
+        .count()
 }
 
 fn holds_as(finding: &Finding, kind: Kind) -> bool

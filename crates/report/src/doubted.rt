@@ -150,7 +150,8 @@ fn push_name(
     push_place(text, first_rested(doubts, id))
 }
 
-fn push_place(text: &mut String, first: Option<(usize, u64)>) -> Result<(), AllocError>
+/// The place of an element, as the first of some; nothing where there is none.
+pub(crate) fn push_place(text: &mut String, first: Option<(usize, u64)>) -> Result<(), AllocError>
     ensures { OnOk result (string_bytes text.new ≡ string_bytes text.old ++ first_text first) }
 {
     match first {

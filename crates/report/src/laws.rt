@@ -1,6 +1,6 @@
 //! Laws of this crate's words, which its users may rely on.
 
-ghost use Rattle.std.specs.Prelude.{◌≡◌, ◌↔◌, IsTrue, ℕ, List, Some, length, sum_by};
+ghost use Rattle.std.specs.Prelude.{◌≡◌, ◌↔◌, IsTrue, ℕ, List, Some, filter, length, sum_by};
 ghost use Rattle.intervals.specs.declared.operation.Op.{Op};
 ghost use Rattle.intervals.specs.Terms.{ClaimModel};
 ghost use Rattle.tower_file.specs.Contents.{TowerModel};
@@ -16,7 +16,7 @@ ghost use Rattle.report.specs.declared.finding.Finding.{Finding};
 ghost use Rattle.report.specs.Finding.{AreFindings, IsOfTower};
 ghost use Rattle.report.specs.Doubt.{RestsOn, change_rests_on, rests_on};
 ghost use Rattle.report.specs.Culprit.{AreCulprits, culprits_of};
-ghost use Rattle.report.specs.Refused.{refused, refused_by};
+ghost use Rattle.report.specs.Refused.{IsByFrequency, RefusedCode, by_frequency, is_as_frequent, refused, refused_by};
 ghost use Rattle.texts.specs.Codes.{refusal_codes};
 
 /// A run leaves a book for each register of its tower.
@@ -34,6 +34,13 @@ pub fn the_culprits_are_those()
 /// Each refusal is counted under one code: the numbers by code come to the number of all.
 pub fn refusals_by_code_are_all()
     ensures { (logs : List Log) → sum_by (λ code. refused_by code logs) refusal_codes ≡ refused logs }
+{}
+
+/// The codes of refusals by frequency are the same codes: none is more frequent than one before it, and of those that are
+/// as frequent as each other all are there, in the order that they had.
+pub fn refusals_come_by_frequency()
+    ensures falls { (listed : List RefusedCode) → IsByFrequency (by_frequency listed) }
+    ensures each { (listed : List RefusedCode) (many : ℕ) → filter (is_as_frequent many) (by_frequency listed) ≡ filter (is_as_frequent many) listed }
 {}
 
 /// The failure of a register rests on an element of it that was left out exactly where the element claims a kind, would

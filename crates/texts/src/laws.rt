@@ -1,5 +1,7 @@
-//! A law of this crate's words.
+//! Laws of this crate's words.
 
+ghost use Rattle.std.specs.Prelude.{◌≡◌, Some, codes};
+ghost use Rattle.std.specs.List.{AllByRecursion};
 ghost use Rattle.intervals.specs.Code.{refusal_code};
 ghost use Rattle.intervals.specs.declared.refusal.Refusal.{Refusal};
 ghost use Rattle.tower_file.specs.Tower.{tower_fault_code};
@@ -12,9 +14,10 @@ ghost use Rattle.shards.specs.Code.{shard_fault_code};
 ghost use Rattle.shards.specs.declared.fault.ShardFault.{ShardFault};
 ghost use Rattle.logs.specs.Code.{break_code_of};
 ghost use Rattle.logs.specs.declared.log.BreakCode.{BreakCode};
-ghost use Rattle.texts.specs.Codes.{NamesItself};
+ghost use Rattle.texts.specs.Codes.{IsFoundByName, NamesItself, code_of, codes_of_own_name, hint_codes, note_codes};
 
-/// The code of each fault is one of those that are explained, as it is printed and in small letters.
+/// The code of each fault, of each note and of each hint is one of those that are explained, as it is printed and in
+/// small letters.
 pub fn each_code_has_an_entry()
     ensures breaks { (code : BreakCode) → NamesItself (break_code_of code) }
     ensures forms { (fault : FormFault) → NamesItself (form_fault_code fault) }
@@ -22,4 +25,13 @@ pub fn each_code_has_an_entry()
     ensures refusals { (refusal : Refusal) → NamesItself (refusal_code refusal) }
     ensures towers { (fault : TowerFault) → NamesItself (tower_fault_code fault) }
     ensures shards { (fault : ShardFault) → NamesItself (shard_fault_code fault) }
+    ensures notes { AllByRecursion NamesItself note_codes }
+    ensures hints { AllByRecursion NamesItself hint_codes }
+{}
+
+/// The name of each code names it, as it is printed and in small letters; but `Memory`, which four codes have, names the
+/// first of them.
+pub fn each_name_names_its_code()
+    ensures names { AllByRecursion IsFoundByName codes_of_own_name }
+    ensures memory { code_of (codes "Memory") ≡ Some (codes "E7") }
 {}

@@ -2,6 +2,7 @@
 //!
 //! ```text
 //! explanation_of("x7")                      what is said of X7, with an example and how to mend it
+//! explanation_of("WritesOverlap")           the same, by the name of the code
 //! note_of("l5")                             the same, of the code of a note alone
 //! message_of_code("X7")                     what the message of `lint` begins with
 //! refusals()                                the entries of the codes by which an element is refused
@@ -16,6 +17,7 @@
 
 mod entry;
 mod form_codes;
+mod hints;
 mod laws;
 mod listed;
 mod notes;
@@ -28,6 +30,6 @@ mod tower_codes;
 mod version;
 
 pub use entry::{Explanation, push_entry};
-pub use laws::each_code_has_an_entry;
+pub use laws::{each_code_has_an_entry, each_name_names_its_code};
 pub use listed::{explanation_of, message_of_code, note_of, push_list, refusals};
 pub use version::VERSION;

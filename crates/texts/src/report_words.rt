@@ -5,7 +5,7 @@ use crate::entry::{ANY_WRITERS, Explanation, ONE_SAFE};
 const FAILS: &str = "the register fails; status 1";
 
 /// The words of a report.
-pub(crate) const REPORT_WORDS: [Explanation; 10] = [
+pub(crate) const REPORT_WORDS: [Explanation; 11] = [
     Explanation {
         code: "wrong",
         name: "a fault",
@@ -74,6 +74,29 @@ the value of A is the older one; C ended before D began, so it is the newer one.
          {:process 2 :type :ok :f :read :value 1 :index 5}      ; conflict 0:0 0:2 0:2 0:4",
         mend: "look why D still gave the value of A, though C was done with the other one.",
         see: "`culprit`",
+    },
+    Explanation {
+        code: "zone",
+        name: "of a picture",
+        message: "",
+        outcome: "drawn by `show` of an atomic register",
+        what: "The time from the first end to the last beginning of the operations of a value.",
+        more: "These are the write of the value and the reads of it. Forward, the first end comes before the last
+beginning: the register had the value all that time. Backward, it comes after: the register had the
+value at some moment of it. Two forward zones must not overlap, and a backward one must not lie
+inside a forward one.",
+        mostly: "a `conflict`, whose two zones are drawn. A picture with `--all` has those of all values.",
+        tower: ANY_WRITERS,
+        example: "{:process 0 :type :invoke :f :write :value 1 :index 0}
+         {:process 0 :type :ok :f :write :value 1 :index 1}
+         {:process 1 :type :invoke :f :write :value 2 :index 2}
+         {:process 2 :type :invoke :f :read :index 4}
+         {:process 2 :type :ok :f :read :value 2 :index 5}
+         {:process 2 :type :invoke :f :read :index 6}
+         {:process 2 :type :ok :f :read :value 1 :index 7}
+         {:process 1 :type :ok :f :write :value 2 :index 9}      ; 2, backward, inside 1",
+        mend: "look at the operations at the ends of the two zones: they show why no order has room.",
+        see: "`conflict`",
     },
     Explanation {
         code: "culprit",

@@ -1,4 +1,4 @@
-use Rattle.std.proofs.Common.{◌≡◌, ◌∙◌, ◌++◌, ℕ, List, length, ap, subst, sym}
+use Rattle.std.proofs.Common.{◌∙◌, ◌++◌, ℕ, List, length, ap, subst, sym}
 use Rattle.logs.specs.declared.log.Log.{Log}
 use Rattle.report.specs.declared.doubt.Doubt.{Doubt}
 use Rattle.report.specs.declared.finding.Finding.{Finding}

@@ -4,4 +4,4 @@ use Rattle.texts.specs.Codes.{entry_among}
 use Rattle.texts.proofs.listed.find_among.Given as goal
 
 abbrev pub invariant-loop-entry : goal.invariant-loop-entry
-invariant-loop-entry l = entry_among (drop l.entry-index l.entries) l.word ≡ entry_among l.fn.entries l.word
+invariant-loop-entry l = entry_among l.by_name (drop l.entry-index l.entries) l.word ≡ entry_among l.fn.by_name l.fn.entries l.word

@@ -5,4 +5,4 @@ use Rattle.texts.proofs.Parts.{entries_of}
 use Rattle.texts.proofs.listed.find_in.Given as goal
 
 abbrev pub invariant-loop-part : goal.invariant-loop-part
-invariant-loop-part l = entry_among (entries_of (drop l.part-index l.parts)) l.word ≡ entry_among (entries_of l.fn.parts) l.word
+invariant-loop-part l = entry_among l.by_name (entries_of (drop l.part-index l.parts)) l.word ≡ entry_among l.fn.by_name (entries_of l.fn.parts) l.word
