@@ -71,17 +71,22 @@ pub fn check<'a, A: AllocGlobal + Threads + Wait + Sync, F: Files, W: Write>(
         status,
         order: register,
     };
-    print(rt, asked.form, asked, &outcome, out)?;
-    // The command is over: to free the run, node by node, would cost a tenth of its time.
-    forget(judged);
-    forget(pages);
-    Ok(status)
+    match print(rt, asked.form, asked, &outcome, out) {
+        Ok(()) => {
+            // The command is over: to free the run, node by node, would cost a tenth of its time.
+            forget(judged);
+            forget(pages);
+            Ok(status)
+        }
+        Err(fault) => Err(fault),
+    }
 }
 
 /// What comes of a report that was written, or was not.
 fn reported<'a>(written: Result<(), ReportFault>) -> Result<(), CommandFault<'a>>
-    ensures written { OnOk result (IsOk written.entry) }
-    ensures fault { IfErr result (λ fault. IfErr written.entry (λ of. fault ≡ unreported of)) }
+    ensures written { OnOk result (IsOk written) }
+    ensures fault { IfErr result (λ fault. IfErr written (λ of. fault ≡ unreported of)) }
+    ensures memory { IfErr result (λ fault. fault ≢ CommandFault.Unwritable → written ≡ Err ReportFault.Memory) }
 {
     match written {
         Ok(()) => Ok(()),
