@@ -3,7 +3,7 @@
 `Run` is a tower file and traces of all kinds of elements, of which no two traces meet on one register; `applied` is the
 plain twin of the program, which applies the elements that were not refused, so that each register is there as it should
 be at the end. `one_register` is a history of one register that mostly is right, `files_of` its tower file and trace.
-`event`, `write` and `read` are single elements.
+`of_items` and `cut` make traces of the elements of one. `event`, `write` and `read` are single elements.
 """
 import os
 import pathlib
@@ -396,6 +396,25 @@ class Run:
             else:
                 with open(path, "wb") as file:
                     file.write(trace.bytes)
+
+
+def of_items(items):
+    """A trace of these elements of a trace."""
+    trace = object.__new__(Trace)
+    trace.items, trace.bytes = [], b""
+    for item in items:
+        trace.bytes += item["text"] + b"\n"
+        trace.items.append(dict(item, ends=len(trace.bytes) - 1))
+    return trace
+
+
+def cut(trace):
+    """The trace as two, by processes; the first is the one with fewer writes."""
+    processes = sorted({item["process"] for item in trace.items if "process" in item})
+    parts = [], []
+    for item in trace.items:
+        parts[item.get("process") in processes[::2]].append(item)
+    return [of_items(part) for part in sorted(parts, key=lambda part: sum(item.get("f") == "write" for item in part))]
 
 
 def is_utf8(name):
