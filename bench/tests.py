@@ -1,7 +1,9 @@
 """The tests, as crates of a tree of their own, which `rt ci` leaves out. `./try/tests` and `./try/memory` use it."""
+import os
+import pathlib
 import shutil
 
-from build import ROOT, below, compile, crates, link, lower
+from build import ROOT, below, compile, crates, link, lock, lower
 
 # Each crate of tests, a folder of tests/, with the libraries that it uses, lowest first.
 TESTS = {
@@ -13,7 +15,24 @@ TESTS = {
 }
 
 
+# The folder in which programs of tests are kept for others; the variable names it, or there is none.
+KEPT = os.environ.get("REGAUDIT_TESTS")
+
+
 def build_tests(name, room):
+    """The program of a crate of tests: built in a folder, or taken as another call keeps it."""
+    if not KEPT:
+        return build_anew(name, room)
+    folder = pathlib.Path(KEPT, name)
+    folder.mkdir(parents=True, exist_ok=True)
+    with lock(folder):
+        if not (folder / name).exists():
+            shutil.copy(build_anew(name, room), folder / "new")
+            os.replace(folder / "new", folder / name)
+    return folder / name
+
+
+def build_anew(name, room):
     """Builds a crate of tests without a proof: what a proof would show of it, and of the libraries below it, is checked
     while it runs."""
     rows, tree = crates() | TESTS, room / "tree"
