@@ -14,7 +14,8 @@ class Unfit(Exception):
 
 def all_edits(crate):
     """All edits of a crate."""
-    return sorted([*(ROOT / "crates" / crate / "must-fail").glob("*.edit"), *(ROOT / "wrong-bodies" / crate).glob("*.edit")])
+    folders = [ROOT / "crates" / crate / "must-fail", ROOT / "wrong-bodies" / crate]
+    return sorted(edit for folder in folders for edit in folder.glob("*.edit"))
 
 
 def edited(edit, crate):

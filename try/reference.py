@@ -286,9 +286,12 @@ def paired(item, place, accepted):
     accepted.append({**item, "place": place})
     if item["what"] == "invoke":
         return item
-    changes = {"end": item.get("moment")} | ({"value": item["value"]} if item["f"] == "read" and item["what"] == "ok" else {})
-    answer = {"what": item["what"], "register": last["register"], "of": last["place"], "changes": changes}
-    return None if item["what"] == "info" else answer
+    if item["what"] == "info":
+        return None
+    changes = {"end": item["moment"]} if item["what"] == "ok" else {}
+    if item["what"] == "ok" and item["f"] == "read":
+        changes["value"] = item["value"]
+    return {"what": item["what"], "register": last["register"], "of": last["place"], "changes": changes}
 
 
 def steps_of(trace, tower, moment):
@@ -419,7 +422,8 @@ def is_ordered(ops, initial):
 
 
 def is_atomic(ops, initial):
-    """Whether the operations have such an order; where nobody knows the initial value, by some value that no write has."""
+    """Whether the operations have such an order; where nobody knows the initial value, with some value that no write
+    has."""
     if initial != UNKNOWN:
         return is_ordered(ops, initial)
     written = {op["value"] for op in writes_of(ops)}
@@ -451,7 +455,8 @@ def end_of(op):
 
 
 def clusters_of(ops, initial):
-    """The operations of each value that a write has, or the initial value, the write first; by the left end of the zone."""
+    """The operations of the initial value, and of each value that a write has, the write first; by the left ends of the
+    zones."""
     values = {op["value"]: [op] for op in writes_of(ops)}
     reads = [op for op in ops if op["f"] == "read"]
     if initial == UNKNOWN:
@@ -470,8 +475,8 @@ def zone_of(cluster):
 
 
 def conflict_of(clusters):
-    """The operations of the first conflict: of the first zone that meets an earlier forward one, and of the earlier forward
-    zone that goes farthest."""
+    """The operations of the first conflict: of the first zone that meets an earlier forward one, and of the earlier
+    forward zone that goes farthest."""
     for at, second in enumerate(clusters):
         forward = [cluster for cluster in clusters[:at] if zone_of(cluster)[0] < zone_of(cluster)[1]]
         (end, begin), ends = zone_of(second), [zone_of(cluster) for cluster in forward]
@@ -514,8 +519,10 @@ def fault_of(standing):
 def order_of(standing):
     """An order of the operations of an atomic register that holds: by the zones of the values."""
     judged = [op for op in standing.ops if op["f"] == "write" or op["end"] is not None]
-    order = [op for cluster in clusters_of(judged, standing.register["initial"]) for op in cluster if op["id"] is not None]
-    assert len(order) == len(judged) and all(not precedes(b, a) for a, b in itertools.combinations(order, 2)), "no order"
+    order = sum(clusters_of(judged, standing.register["initial"]), [])
+    order = [op for op in order if op["id"] is not None]
+    keeps = all(not precedes(b, a) for a, b in itertools.combinations(order, 2))
+    assert keeps and len(order) == len(judged), "it is no order of the operations"
     return order
 
 
@@ -597,7 +604,8 @@ class Check:
         lines += self.order_lines(standings, faults)
         refused = any(note.startswith("refused") for trace in notes for note in trace)
         is_short = sum(len(standing.ops) for standing in standings) < self.least
-        status = 2 if any(broken for _, broken in self.read) else 1 if any(faults) else 3 if refused else 4 if is_short else 0
+        broken = any(broken for _, broken in self.read)
+        status = 2 if broken else 1 if any(faults) else 3 if refused else 4 if is_short else 0
         return "".join(line + "\n" for line in lines).encode(), status
 
     def noted(self, standings, trace, step):
