@@ -1,5 +1,5 @@
 -- What the command `check` prints of traces, and its status.
-use Rattle.std.specs.Prelude.{ℕ, List, map, Option, Some, codes}
+use Rattle.std.specs.Prelude.{◌≡◌, ◌++◌, ◌∷◌, [], ◌&&◌, ℕ, List, count_by, flat_map, map, nat_eq, if◌then◌else◌, Option, Some, codes}
 use Rattle.std.specs.Io.KnownBytes.{Appends}
 use Rattle.intervals.specs.declared.operation.RegId.{RegId}
 use Rattle.tower_file.specs.Contents.{TowerModel}
@@ -9,7 +9,8 @@ use Rattle.logs.specs.declared.log.Log.{Log}
 use Rattle.feeders.specs.Readers.{AreReadOf}
 use Rattle.logs.specs.Run.{IsRun}
 use Rattle.report.specs.Report.{IsReport}
-use Rattle.report.specs.Summary.{IsSummary}
+use Rattle.report.specs.Refused.{refused}
+use Rattle.report.specs.Summary.{IsSummary, is_broken}
 use Rattle.report.specs.declared.fault.ReportFault.{ReportFault}
 use Rattle.report.specs.declared.few.Least.{Least}
 use Rattle.report.specs.declared.fault.ReportFault.TheVariants as reports
@@ -28,6 +29,7 @@ use Rattle.jepsen_form.specs.declared.item.MomentField.TheVariants.{Index, Time}
 use Rattle.words.specs.Words.{AskedCheck, file_of, names_lines}
 use Rattle.command_parts.specs.declared.fault.CommandFault.{CommandFault}
 use Rattle.command_parts.specs.declared.fault.CommandFault.TheVariants.{Memory, Unwritable}
+use Rattle.command_parts.specs.Call.{moment_words, tower_words, trace_word}
 use Rattle.command_parts.specs.Kept.{AreKeptIf}
 use Rattle.command_parts.specs.Status.{IsStatus}
 use Rattle.command_parts.specs.Tower.{IsNamed}
@@ -55,11 +57,23 @@ ArePrinted notation asked status tower closed logs order kept text =
 abbrev pub IsPrintedForCi : CiServer → AskedCheck → TowerModel → List ClosedShard → List Log → List (List ℕ) → List ℕ → Type 0
 IsPrintedForCi server asked tower closed logs kept text = IsTextForCi server asked.traces (least_asked asked.demand) tower closed logs kept text
 
+-- the line that names the call of `lint` which shows what was refused and what broke; empty where nothing was
+abbrev pub advice_text : AskedCheck → List Log → List ℕ
+advice_text asked logs =
+    if nat_eq (refused logs) 0 && nat_eq (count_by is_broken logs) 0 then []
+    else codes "see: regaudit lint" ++ tower_words asked.tower ++ moment_words asked.moments ++ flat_map trace_word asked.traces ++ 10 ∷ []
+
+-- the text is the summary of a run, and that line after it
+pub record IsSummarised (asked : AskedCheck) (tower : TowerModel) (closed : List ClosedShard) (logs : List Log) (text : List ℕ) : Type 0 where
+  pub summary : List ℕ
+  pub is : IsSummary tower (least_asked asked.demand) closed logs summary
+  pub text_is : text ≡ summary ++ advice_text asked logs
+
 -- the text is what is printed of a run in this form: the report, with the order that is asked for, the summary, the
 -- records, what a CI server reads, or the trace of the operations that show how registers fail
 abbrev pub IsPrintedIn : ReportForm → AskedCheck → ℕ → TowerModel → List ClosedShard → List Log → Option RegId → List (List ℕ) → List ℕ → Type 0
 IsPrintedIn Report asked status tower closed logs order kept text = IsReport tower closed logs order text
-IsPrintedIn Summary asked status tower closed logs order kept text = IsSummary tower (least_asked asked.demand) closed logs text
+IsPrintedIn Summary asked status tower closed logs order kept text = IsSummarised asked tower closed logs text
 IsPrintedIn Json asked status tower closed logs order kept text = ArePrinted notations.Json asked status tower closed logs order kept text
 IsPrintedIn Edn asked status tower closed logs order kept text = ArePrinted notations.Edn asked status tower closed logs order kept text
 IsPrintedIn GitHub asked status tower closed logs order kept text = IsPrintedForCi servers.GitHub asked tower closed logs kept text

@@ -1,24 +1,28 @@
 //! The command `check`.
 
-ghost use Rattle.std.specs.Prelude.{◌≡◌, ◌≢◌, ◌≤◌, ◌<◌, ℕ, List, Err, IfOk, IfErr, IfSome, IsOk, OnOk, length, map};
+ghost use Rattle.std.specs.Prelude.{◌≡◌, ◌≢◌, ◌≤◌, ◌<◌, ℕ, List, Err, IfOk, IfErr, IfSome, IsOk, OnOk, length, map, string_bytes};
 ghost use Rattle.std.specs.Io.KnownBytes.{Appends};
 ghost use Rattle.report.specs.Finding.{IsOfTower};
 ghost use Rattle.words.specs.Words.{asked_check, asked_tower};
 ghost use Rattle.excerpt.specs.Excerpt.{IsTextOfExcerpt};
 ghost use Rattle.records.specs.Run.{names_of};
-ghost use Rattle.check_command.specs.Checked.{ArePrinted, IsChecked, IsPrintedForCi, IsPrintedIn, least_asked, moment_word, record_names, unreported};
+ghost use Rattle.check_command.specs.Checked.{ArePrinted, IsChecked, IsPrintedForCi, IsPrintedIn, IsSummarised, advice_text, least_asked, moment_word, record_names, unreported};
 ghost use Rattle.command_parts.specs.Files.{AreHeld};
 ghost use Rattle.command_parts.specs.Tower.{OfTower};
 
 use ci_forms::{CiForm, CiServer, write_for_ci};
-use command_parts::{CommandFault, Files, Job, Judged, OpenedRun, judge, open_run, status_after};
-use excerpt::{ExcerptFault, write_excerpt};
+use command_parts::{
+    CommandFault, Files, Job, Judged, OpenedRun, judge, open_run, push_moment_words,
+    push_tower_words, push_trace_words, status_after, write_bytes,
+};
+use excerpt::{ExcerptFault, excerpt_of};
 use intervals::RegId;
 use jepsen_form::MomentField;
+use logs::Log;
 use records::{Form, Notation, write_records};
 use report::laws::a_run_is_of_its_tower;
-use report::{Least, ReportFault, report, summary};
-use std::alloc::Global;
+use report::{Least, ReportFault, count_broken, count_refused, report, summary};
+use std::alloc::{AllocError, Global};
 use std::io::Write;
 use std::mem::forget;
 use std::sync::Wait;
@@ -131,19 +135,46 @@ fn print<'a, A: AllocGlobal + Threads + Wait + Sync, W: Write>(
     let run = &outcome.judged.run;
     match form {
         ReportForm::Report => reported(report(rt, alloc, outcome.tower, run, outcome.order, out)),
-        ReportForm::Summary => reported(summary(
-            alloc,
-            outcome.tower,
-            run,
-            least_asked(asked.demand),
-            out,
-        )),
+        ReportForm::Summary => reported(print_summary(alloc, asked, outcome, out)),
         ReportForm::Json => reported(print_records(alloc, Notation::Json, asked, outcome, out)),
         ReportForm::Edn => reported(print_records(alloc, Notation::Edn, asked, outcome, out)),
         ReportForm::GitHub => reported(print_for_ci(alloc, CiServer::GitHub, asked, outcome, out)),
         ReportForm::Junit => reported(print_for_ci(alloc, CiServer::Junit, asked, outcome, out)),
         ReportForm::Trace => print_excerpt(rt, asked.moments, outcome, out),
     }
+}
+
+/// Writes the summary of a run, and the line that names a call of `lint`.
+fn print_summary<W: Write>(
+    alloc: Global,
+    asked: &Check<'_>,
+    outcome: &Outcome,
+    out: &mut W,
+) -> Result<(), ReportFault>
+    requires of_tower { IsOfTower outcome.now.tower.now outcome.now.judged.now.run.closed }
+    ensures printed { OnOk result ((text : List ℕ) × IsSummarised (asked_check asked.now) outcome.now.tower.now outcome.now.judged.now.run.closed outcome.now.judged.now.run.logs.items text × Appends (W.contents out.old) (W.contents out.new) text) }
+    ensures memory { result ≡ Err ReportFault.Memory → out.new ≡ out.old }
+{
+    let run = &outcome.judged.run;
+    let advice = advice_of(alloc, asked, &run.logs)?;
+    let least = least_asked(asked.demand);
+    summary(alloc, outcome.tower, run, least, &advice, out)
+}
+
+/// The line that names the call of `lint` which shows what was refused and what broke; empty where nothing was.
+fn advice_of(alloc: Global, asked: &Check<'_>, logs: &[Log]) -> Result<String, AllocError>
+    ensures { IfOk result (λ text. string_bytes text ≡ advice_text (asked_check asked.now) logs.now) }
+{
+    let mut text = String::new(alloc);
+    if count_refused(logs) == 0 && count_broken(logs) == 0 {
+        return Ok(text);
+    }
+    text.push_str("see: regaudit lint")?;
+    push_tower_words(&mut text, asked.tower)?;
+    push_moment_words(&mut text, asked.moments)?;
+    push_trace_words(&mut text, &asked.traces)?;
+    text.push_str("\n")?;
+    Ok(text)
 }
 
 /// Writes the trace of the operations that show how the registers fail.
@@ -157,18 +188,20 @@ fn print_excerpt<'a, A: AllocGlobal + Wait, W: Write>(
     ensures printed { OnOk result ((text : List ℕ) × IsTextOfExcerpt outcome.now.tower.now moments outcome.now.judged.now.run.closed text × Appends (W.contents out.old) (W.contents out.new) text) }
     ensures quiet { IfErr result (λ fault. fault ≢ CommandFault.Unwritable → out.new ≡ out.old) }
 {
-    match write_excerpt(
+    let made = excerpt_of(
         rt,
         rt.alloc(),
         outcome.tower,
-        &outcome.judged.run,
+        &outcome.judged.run.closed,
         moments,
-        out,
-    ) {
-        Ok(()) => Ok(()),
+    );
+    match made {
+        Ok(text) => match write_bytes(out, &text) {
+            Ok(()) => Ok(()),
+            Err(_) => Err(CommandFault::Unwritable),
+        },
         Err(ExcerptFault::Broken(fault)) => Err(CommandFault::of_run(fault)),
         Err(ExcerptFault::Unlike) => Err(CommandFault::Unlike),
-        Err(ExcerptFault::Unwritable) => Err(CommandFault::Unwritable),
     }
 }
 

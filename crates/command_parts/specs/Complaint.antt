@@ -1,5 +1,5 @@
 -- What is printed on standard error of a run that broke off.
-use Rattle.std.specs.Prelude.{List, ℕ, [], ◌∷◌, ◌++◌, Option, Some, None, codes}
+use Rattle.std.specs.Prelude.{◌≡◌, ◌⊎◌, List, ℕ, [], ◌∷◌, ◌++◌, Option, Some, None, codes}
 use Rattle.std.specs.Borrow.{Bor}
 use Rattle.std.specs.Fmt.{decimal}
 use Rattle.shards.specs.Code.{shard_fault_code}
@@ -8,7 +8,9 @@ use Rattle.logs.specs.declared.log.Broken.{Broken}
 use Rattle.feeders.specs.declared.fault.RunFault.{RunFault}
 use Rattle.feeders.specs.declared.fault.RunFault.TheVariants as runs
 use Rattle.command_parts.specs.declared.fault.CommandFault.{CommandFault}
-use Rattle.command_parts.specs.declared.fault.CommandFault.TheVariants.{Usage, TooManyTraces, Unreadable, ReadOnce, Tower, Misnamed, Named, NoRegister, NoCode, NoNote, Shard, Memory, Unwritable, Unlike, Untold}
+use Rattle.command_parts.specs.declared.fault.CommandFault.TheVariants.{Usage, TooManyTraces, Unreadable, UnreadableFor, ReadOnce, Tower, Misnamed, Named, NoRegister, NoCode, NoNote, Shard, Memory, Unwritable, Unlike, Untold}
+use Rattle.command_parts.specs.declared.files.Cause.{Cause}
+use Rattle.command_parts.specs.declared.files.Cause.TheVariants.{Folder, Absent, Forbidden}
 use Rattle.feeders.specs.declared.whole.InputFault.{InputFault}
 use Rattle.feeders.specs.declared.whole.InputFault.TheVariants as inputs
 use Rattle.phrases.specs.Names.{printed}
@@ -19,11 +21,18 @@ named_before name broken =
     codes "regaudit: " ++ printed name ++ codes " breaks at byte " ++ decimal broken.place ++ codes ": " ++ break_code_of broken.code
     ++ codes "; what comes before is named, and regaudit lint shows where it is" ++ 10 ∷ []
 
+-- why a file cannot be read, as it is printed after its name
+abbrev pub cause_words : Cause → List ℕ
+cause_words Folder = codes ": it is a folder"
+cause_words Absent = codes ": there is no such file"
+cause_words Forbidden = codes ": it may not be read"
+
 -- the line that says why a run broke off; none for a usage fault, whose text is clap's
 abbrev pub complaint_of : CommandFault → Option (List ℕ)
 complaint_of (Usage error) = None
 complaint_of TooManyTraces = Some (codes "regaudit: too many traces" ++ 10 ∷ [])
 complaint_of (Unreadable name) = Some (codes "regaudit: cannot read " ++ printed name.now ++ 10 ∷ [])
+complaint_of (UnreadableFor name cause) = Some (codes "regaudit: cannot read " ++ printed name.now ++ cause_words cause ++ 10 ∷ [])
 complaint_of (ReadOnce name) =
     Some (codes "regaudit: " ++ printed name.now ++ codes " can be read only once: name a tower file by --tower; regaudit keys writes one" ++ 10 ∷ [])
 complaint_of (Tower code) = Some (codes "regaudit: tower " ++ code.now ++ 10 ∷ [])
@@ -44,6 +53,10 @@ unread name inputs.Memory = Memory
 unread name inputs.Failed = Unreadable name
 unread name inputs.TooLong = Unreadable name
 unread name inputs.TooManyCalls = Unreadable name
+
+-- the fault, or, where it is that a file cannot be read, that and why
+abbrev pub IsWithCause : CommandFault → CommandFault → Type 0
+IsWithCause fault told = (told ≡ fault) ⊎ ((name : Bor (List ℕ)) × (cause : Cause) × (fault ≡ Unreadable name) × (told ≡ UnreadableFor name cause))
 
 -- the fault of a command whose run broke off: out of memory, or what a shard refused
 abbrev pub broken_off : RunFault → CommandFault

@@ -1,4 +1,5 @@
 -- words of the public clauses
+pub mod Call
 pub mod Complaint
 pub mod Files
 pub mod Job

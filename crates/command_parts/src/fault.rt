@@ -5,6 +5,7 @@ ghost use Rattle.tower_file.specs.Tower.{tower_fault_code};
 ghost use Rattle.phrases.specs.Names.{printed};
 ghost use Rattle.command_parts.specs.Complaint.{broken_off, complaint_of, named_before, unread};
 
+use crate::files::Cause;
 use feeders::{InputFault, RunFault};
 use logs::Broken;
 use phrases::push_printed;
@@ -23,6 +24,8 @@ pub enum CommandFault<'a> {
     /// A file that cannot be opened; or one that has to be read whole, a tower file or a trace of `lint`, and cannot be
     /// or is too long.
     Unreadable(&'a str),
+    /// The same, with why.
+    UnreadableFor(&'a str, Cause),
     /// A trace that has to be read twice, first for what it names, and is a pipe or the like.
     ReadOnce(&'a str),
     /// A tower file with a fault, by its code.
@@ -116,6 +119,9 @@ fn complaint(alloc: Global, fault: &CommandFault<'_>) -> Result<String, AllocErr
         CommandFault::Usage(error) => write!(text, "{error}")?,
         CommandFault::TooManyTraces => text.push_str("regaudit: too many traces\n")?,
         CommandFault::Unreadable(name) => push_line(&mut text, "regaudit: cannot read ", name, "")?,
+        CommandFault::UnreadableFor(name, cause) => {
+            push_line(&mut text, "regaudit: cannot read ", name, cause.words())?
+        }
         CommandFault::ReadOnce(name) => push_line(
             &mut text,
             "regaudit: ",

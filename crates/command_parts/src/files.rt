@@ -1,17 +1,42 @@
 //! Files, opened and read by their names.
 
 ghost use Rattle.std.specs.Prelude.{◌≡◌, ◌≢◌, ℕ, List, Option, Some, None, IfOk, IfErr, IfSome, map, length, vec_len};
+ghost use Rattle.command_parts.specs.Complaint.{cause_words};
 ghost use Rattle.command_parts.specs.Files.{AreHeld};
 
 use crate::fault::CommandFault;
 use feeders::read_whole;
 use std::alloc::Global;
-use std::io::Read;
+use std::io::{self, Read};
 use std::{fs, rt};
 
 /// The file cannot be opened.
 #[derive(Clone, Copy)]
 pub struct Missing;
+
+/// Why a file cannot be read.
+#[derive(Clone, Copy)]
+pub enum Cause {
+    /// It is a folder.
+    Folder,
+    /// There is none of that name.
+    Absent,
+    /// The one who runs the program may not read it.
+    Forbidden,
+}
+
+impl Cause {
+    /// It as it is printed after the file's name.
+    pub fn words(self) -> &'static str
+        ensures { result.now ≡ cause_words self }
+    {
+        match self {
+            Cause::Folder => ": it is a folder",
+            Cause::Absent => ": there is no such file",
+            Cause::Forbidden => ": it may not be read",
+        }
+    }
+}
 
 /// Opens files by their names.
 pub trait Files {
@@ -27,6 +52,13 @@ pub trait Files {
     fn open(&mut self, name: &str) -> Result<Self::Reader, Missing>
         ensures reader { IfOk result (λ reader. IfSome (held self.old name.now) (λ bytes. Self.Reader.remaining reader ≡ Some bytes)) }
         ensures stays { held self.new ≡ held self.old };
+
+    /// Why a file that cannot be read cannot, where that is known.
+    fn cause(&mut self, _name: &str) -> Option<Cause>
+        ensures stays { held self.new ≡ held self.old }
+    {
+        None
+    }
 }
 
 /// The files of the machine on which the program runs.
@@ -59,6 +91,28 @@ where
             Ok(file) => Ok(file),
             Err(_) => Err(Missing),
         }
+    }
+
+    /// A pipe or the like is not opened for it.
+    fn cause(&mut self, name: &str) -> Option<Cause> {
+        match fs::metadata(self.rt, name) {
+            Ok(metadata) if metadata.is_dir() => Some(Cause::Folder),
+            Ok(metadata) if metadata.is_file() => match fs::open(self.rt, name) {
+                Ok(_) => None,
+                Err(error) => cause_of(error),
+            },
+            Ok(_) => None,
+            Err(error) => cause_of(error),
+        }
+    }
+}
+
+/// The cause that an error of the machine tells.
+fn cause_of(error: io::Error) -> Option<Cause> {
+    match error.kind() {
+        io::ErrorKind::NotFound | io::ErrorKind::NotADirectory => Some(Cause::Absent),
+        io::ErrorKind::PermissionDenied => Some(Cause::Forbidden),
+        _ => None,
     }
 }
 

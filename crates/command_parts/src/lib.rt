@@ -10,6 +10,7 @@
 //! texts that are kept of traces).
 #![tactic(auto)]
 
+mod call;
 mod fault;
 mod files;
 mod job;
@@ -21,8 +22,9 @@ mod status;
 mod tower;
 mod write;
 
+pub use call::{push_moment_words, push_option, push_tower_words, push_trace_words};
 pub use fault::{CommandFault, say};
-pub use files::{Files, HostFiles, Missing, open_file, open_files, read_file, read_files};
+pub use files::{Cause, Files, HostFiles, Missing, open_file, open_files, read_file, read_files};
 pub use job::{Job, TRACE_LIMIT};
 pub use judging::{Judged, judge};
 pub use naming::{WrittenNames, has_fault, say_faults, write_names};

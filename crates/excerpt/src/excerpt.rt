@@ -3,7 +3,6 @@
 ghost use Rattle.std.specs.Prelude.{◌≡◌, ◌≢◌, ◌++◌, IfErr, IfOk, List, OnOk, flat_map, length, true, ℕ};
 ghost use Rattle.std.specs.List.{slice_get};
 ghost use Rattle.intervals.specs.Table.{ops_in_slots};
-ghost use Rattle.std.specs.Io.KnownBytes.{Appends};
 ghost use Rattle.report.specs.Finding.{IsOfTower};
 ghost use Rattle.shards.specs.Closing.{book_of};
 ghost use Rattle.excerpt.specs.Event.{operation_events};
@@ -16,47 +15,17 @@ use crate::shown::shown_of;
 use feeders::{Pages, RunFault, Setup, run_in_turn};
 use intervals::{Kind, Op, RegId};
 use jepsen_form::MomentField;
-use logs::Run;
 use phrases::kind_word;
 use report::laws::a_run_is_of_its_tower;
 use report::{Finding, count_broken, count_refused, find_all};
 use shards::{Closed, NoGate};
 use std::alloc::{AllocError, Global};
-use std::io::{self, Write};
 use std::sync::Wait;
 use tower_file::Tower;
 
-/// Writes the trace of the operations that show how the registers of a run fail, in one write and one flush; nothing where
-/// none fails. The run has to be of the tower.
-pub fn write_excerpt<'x, R: Wait, W: Write>(
-    rt: &R,
-    alloc: Global,
-    tower: &'x Tower,
-    run: &Run<'x>,
-    moments: MomentField,
-    out: &mut W,
-) -> Result<(), ExcerptFault>
-    requires of_tower { IsOfTower tower.now run.now.closed }
-    ensures excerpt { OnOk result ((text : List ℕ) × IsTextOfExcerpt tower.now moments run.now.closed text × Appends (W.contents out.old) (W.contents out.new) text) }
-    ensures unwritten { IfErr result (λ fault. fault ≢ ExcerptFault.Unwritable → out.new ≡ out.old) }
-{
-    let text = text_of(rt, alloc, tower, &run.closed, moments)?;
-    match write_bytes(&text, out) {
-        Ok(()) => Ok(()),
-        Err(_) => Err(ExcerptFault::Unwritable),
-    }
-}
-
-/// Writes bytes in one write and one flush.
-fn write_bytes<W: Write>(bytes: &[u8], out: &mut W) -> io::Result<()>
-    ensures { OnOk result (Appends (W.contents out.old) (W.contents out.new) bytes.now) }
-{
-    out.write_all(bytes)?;
-    out.flush()
-}
-
-/// The trace, which fails in the same ways.
-fn text_of<R: Wait>(
+/// The trace of the operations that show how the registers of a run fail; empty where none fails. The run has to be of
+/// the tower.
+pub fn excerpt_of<R: Wait>(
     rt: &R,
     alloc: Global,
     tower: &Tower,
@@ -65,7 +34,6 @@ fn text_of<R: Wait>(
 ) -> Result<Vec<u8>, ExcerptFault>
     requires of_tower { IsOfTower tower.now closed.now }
     ensures text { IfOk result (λ text. IsTextOfExcerpt tower.now moments closed.now text.items) }
-    ensures unwritten { IfErr result (λ fault. fault ≢ ExcerptFault.Unwritable) }
 {
     let findings = find_all(alloc, tower, closed)?;
     let text = parts_of(alloc, tower, closed, &findings, moments)?;

@@ -1,4 +1,4 @@
-//! Why no excerpt is written.
+//! Why there is no excerpt.
 
 ghost use Rattle.std.specs.Prelude.{◌≡◌};
 ghost use Rattle.feeders.specs.declared.fault.RunFault.TheVariants.{Memory as NoMemory};
@@ -7,15 +7,13 @@ ghost use Rattle.excerpt.specs.declared.fault.ExcerptFault.TheVariants.{Broken a
 use feeders::RunFault;
 use std::alloc::AllocError;
 
-/// Why no excerpt is written.
+/// Why there is no excerpt.
 #[derive(Clone, Copy)]
 pub enum ExcerptFault {
-    /// Memory was refused, or the run of the trace that was made broke off. Nothing was written.
+    /// Memory was refused, or the run of the trace that was made broke off.
     Broken(RunFault),
-    /// The trace that was made does not fail in the same ways, which no run is known to lead to. Nothing was written.
+    /// The trace that was made does not fail in the same ways, which no run is known to lead to.
     Unlike,
-    /// The writer failed. How much it took is not known.
-    Unwritable,
 }
 
 impl From<RunFault> for ExcerptFault {

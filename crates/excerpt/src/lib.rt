@@ -1,7 +1,7 @@
 //! The trace of the operations that show how the registers of a run fail: the small log that fails in the same ways.
 //!
 //! ```text
-//! write_excerpt(rt, alloc, tower, run, moments, out)?;    // the events, to be checked by the same tower
+//! let text = excerpt_of(rt, alloc, tower, &run.closed, moments)?;    // the events, to be checked by the same tower
 //! ```
 //!
 //! Of an atomic register these are the operations of the witness, which excludes every order by itself, and the writes of
@@ -15,5 +15,5 @@ mod excerpt;
 mod fault;
 mod shown;
 
-pub use excerpt::write_excerpt;
+pub use excerpt::excerpt_of;
 pub use fault::ExcerptFault;

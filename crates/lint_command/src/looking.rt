@@ -1,11 +1,12 @@
 //! The command `lint`.
 
-ghost use Rattle.std.specs.Prelude.{◌≡◌, ◌≢◌, ◌≤◌, ◌⊎◌, ◌+◌, ◌++◌, ◌∷◌, [], ℕ, List, IfOk, IfErr, IfSome, length, map, string_bytes};
+ghost use Rattle.std.specs.Prelude.{◌≡◌, ◌≢◌, ◌≤◌, ◌⊎◌, ◌+◌, ◌++◌, ◌∷◌, [], ℕ, List, IfOk, IfErr, IfSome, Some, length, map, string_bytes, vec_len};
 ghost use Rattle.clap.specs.Words.{Text};
 ghost use Rattle.words.specs.Words.{asked_lint};
 ghost use Rattle.lint_command.specs.Looked.{AreFindingsOfRun, AreOfNames, AreOfTower, IsLooked, IsOfFault, IsPrintedAsAsked, format_by};
 ghost use Rattle.lint.specs.Tower.{HasNotesAlone, IsOneFault};
 ghost use Rattle.lint.specs.declared.finding.TraceFindings.{TraceFindings};
+ghost use Rattle.command_parts.specs.Complaint.{IsWithCause};
 ghost use Rattle.command_parts.specs.Files.{AreHeld};
 
 use crate::deny::denied_codes;
@@ -47,7 +48,7 @@ pub fn look<'a, A: AllocGlobal + Wait, F: Files, W: Write>(
     let alloc = rt.alloc();
     let denied = denied_codes(alloc, asked.denied)?;
     let file = read_named(alloc, files, asked.tower.file())?;
-    let texts = read_files(alloc, files, &asked.traces)?;
+    let texts = read_traces(alloc, files, &asked.traces)?;
     let Ok(slices) = slices_of(alloc, &texts) else {
         return Err(CommandFault::Memory);
     };
@@ -74,9 +75,43 @@ fn read_named<'a, F: Files>(
     ensures stays { F.held files.new ≡ F.held files.old }
     ensures quiet { IfErr result (λ fault. fault ≢ CommandFault.Unwritable) }
 {
-    match name {
-        Some(name) => read_file(alloc, files, name),
-        None => Ok(Vec::new(alloc)),
+    let Some(name) = name else {
+        return Ok(Vec::new(alloc));
+    };
+    match read_file(alloc, files, name) {
+        Ok(bytes) => Ok(bytes),
+        Err(fault) => Err(with_cause(files, fault)),
+    }
+}
+
+/// All the bytes of each trace, in order.
+fn read_traces<'a, F: Files>(
+    alloc: Global,
+    files: &mut F,
+    names: &[&'a str],
+) -> Result<Vec<Vec<u8>>, CommandFault<'a>>
+    ensures held { IfOk result (λ texts. (known : List (List ℕ)) → AreHeld (F.held files.old) (map (λ name. name.now) names.entry.now) known → map (λ text. Some text.items) texts.items ≡ map (λ text. Some text) known) }
+    ensures many { IfOk result (λ texts. vec_len texts ≡ length names.entry.now) }
+    ensures stays { F.held files.new ≡ F.held files.old }
+    ensures quiet { IfErr result (λ fault. fault ≢ CommandFault.Unwritable) }
+{
+    match read_files(alloc, files, names) {
+        Ok(texts) => Ok(texts),
+        Err(fault) => Err(with_cause(files, fault)),
+    }
+}
+
+/// The fault, with why the file cannot be read where it is that, and the machine knows.
+fn with_cause<'a, F: Files>(files: &mut F, fault: CommandFault<'a>) -> CommandFault<'a>
+    ensures told { IsWithCause fault.entry result }
+    ensures stays { F.held files.new ≡ F.held files.old }
+{
+    match fault {
+        CommandFault::Unreadable(name) => match files.cause(name) {
+            Some(cause) => CommandFault::UnreadableFor(name, cause),
+            None => CommandFault::Unreadable(name),
+        },
+        fault => fault,
     }
 }
 

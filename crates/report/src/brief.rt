@@ -31,19 +31,21 @@ const NAMED: usize = 10;
 
 /// Writes the summary of a run over the registers of a tower, in one write and one flush: at most 59 lines, however
 /// many registers fail and traces break. The run has to be of the tower. It ends with what is too few, where fewer
-/// operations stand than `least` says.
+/// operations stand than `least` says. After it comes `advice`, a line of its own or nothing.
 pub fn summary<'x, W: Write>(
     alloc: Global,
     tower: &'x Tower,
     run: &Run<'x>,
     least: Least,
+    advice: &str,
     out: &mut W,
 ) -> Result<(), ReportFault>
     requires of_tower { IsOfTower tower.now run.now.closed }
-    ensures summary { OnOk result ((text : List ℕ) × IsSummary tower.now least run.now.closed run.now.logs.items text × Appends (W.contents out.old) (W.contents out.new) text) }
+    ensures summary { OnOk result ((text : List ℕ) × IsSummary tower.now least run.now.closed run.now.logs.items text × Appends (W.contents out.old) (W.contents out.new) (text ++ advice.now)) }
     ensures memory { result ≡ Err ReportFault.Memory → out.new ≡ out.old }
 {
-    let text = summary_text(alloc, tower, run, least)?;
+    let mut text = summary_text(alloc, tower, run, least)?;
+    text.push_str(advice)?;
     write_whole(&text, out)
 }
 

@@ -2,7 +2,7 @@
 //! to blame, the answers and refusals of each trace, and an order where one is asked for.
 //!
 //!     report(rt, alloc, &tower, &run, None, &mut out)?
-//!     summary(alloc, &tower, &run, least, &mut out)? // what the report says, in at most 59 lines
+//!     summary(alloc, &tower, &run, least, advice, &mut out)? // what the report says, in at most 59 lines
 //!     culprits(alloc, &tower, &run.closed)?          // the registers that fail while their parts hold
 //!     let each = find_all(alloc, &tower, &run.closed)?   // what is found of each register
 //!     doubts_of(alloc, &each, &run.logs)?            // what was left out of each, and what its failure rests on

@@ -1,6 +1,6 @@
 //! The files of a row, and those of the folder in which the program runs.
 
-use command_parts::{Files, HostFiles, Missing};
+use command_parts::{Cause, Files, HostFiles, Missing};
 use row_data::{Cut, Pieces, Row};
 use std::io::Read;
 use std::{io, rt};
@@ -44,6 +44,10 @@ where
             }
         }
         Ok(Opened::OfHost(self.host.open(name)?))
+    }
+
+    fn cause(&mut self, name: &str) -> Option<Cause> {
+        self.host.cause(name)
     }
 }
 

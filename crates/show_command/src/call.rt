@@ -1,21 +1,17 @@
 //! The words of a call of `show`.
 
-use intervals::Kind;
-use jepsen_form::MomentField;
-use phrases::push_printed;
+use command_parts::{push_moment_words, push_option, push_tower_words, push_trace_words};
 use std::alloc::AllocError;
 use texts::VERSION;
-use words::{Picture, Show, ThemeWord, TowerWord};
+use words::{Picture, Show, ThemeWord};
 
 /// Adds the program with its version, and the words that ask for the same.
 pub fn push_call(text: &mut String, asked: &Show) -> Result<(), AllocError> {
     text.push_str(first_line(VERSION))?;
     text.push_str(": show")?;
     text.push_str(word_of(asked.picture))?;
-    push_tower(text, asked.tower)?;
-    if let MomentField::Time = asked.moments {
-        push_option(text, "moment", "time")?;
-    }
+    push_tower_words(text, asked.tower)?;
+    push_moment_words(text, asked.moments)?;
     if let Some(name) = asked.register {
         push_option(text, "register", name)?;
     }
@@ -23,21 +19,7 @@ pub fn push_call(text: &mut String, asked: &Show) -> Result<(), AllocError> {
     if let Some(theme) = theme_word(asked.theme) {
         push_option(text, "theme", theme)?;
     }
-    for name in &asked.traces {
-        text.push_str(" ")?;
-        push_printed(text, name.as_bytes())?;
-    }
-    Ok(())
-}
-
-/// Adds the tower that is asked for; that of atomic registers is asked for by no word.
-fn push_tower(text: &mut String, tower: TowerWord) -> Result<(), AllocError> {
-    match tower {
-        TowerWord::File(name) => push_option(text, "tower", name),
-        TowerWord::Each(Kind::Atomic) => Ok(()),
-        TowerWord::Each(Kind::Regular) => push_option(text, "each", "regular"),
-        TowerWord::Each(Kind::Safe) => push_option(text, "each", "safe"),
-    }
+    push_trace_words(text, &asked.traces)
 }
 
 fn first_line(text: &str) -> &str {
@@ -76,9 +58,4 @@ fn theme_word(theme: ThemeWord) -> Option<&'static str> {
         ThemeWord::Light => Some("light"),
         ThemeWord::Dark => Some("dark"),
     }
-}
-
-fn push_option(text: &mut String, name: &str, value: &str) -> Result<(), AllocError> {
-    write!(text, " --{name} ")?;
-    push_printed(text, value.as_bytes())
 }

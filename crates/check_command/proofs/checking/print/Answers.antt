@@ -5,7 +5,7 @@ pub returns-in-Report-clause-quiet : goal.returns-in-Report-clause-quiet
 returns-in-Report-clause-quiet g c = IfErr-weaker c.reported.result _ _ (λ fault known apart. c.report.ensures.memory (known apart)) c.reported.ensures.memory
 
 pub returns-in-Summary-clause-quiet : goal.returns-in-Summary-clause-quiet
-returns-in-Summary-clause-quiet g c = IfErr-weaker c.reported-in-Summary.result _ _ (λ fault known apart. c.summary.ensures.memory (known apart)) c.reported-in-Summary.ensures.memory
+returns-in-Summary-clause-quiet g c = IfErr-weaker c.reported-in-Summary.result _ _ (λ fault known apart. c.print_summary.ensures.memory (known apart)) c.reported-in-Summary.ensures.memory
 
 pub returns-in-Json-clause-quiet : goal.returns-in-Json-clause-quiet
 returns-in-Json-clause-quiet g c = IfErr-weaker c.reported-in-Json.result _ _ (λ fault known apart. c.print_records.ensures.memory (known apart)) c.reported-in-Json.ensures.memory
