@@ -39,8 +39,8 @@ abbrev pub NamesElements : List ℕ → Log → Type 0
 NamesElements text log = (pieces : List ElementModel) → AreElementsBefore text pieces → All (λ line. line.event < length pieces) log.lines.items
 
 -- what is found in a trace by its log: the spots of its elements (those before its fault), a finding for each refusal
--- at the spot of its element, in order, and one where it broke, if it did; and for each refusal the invocation with which
--- its element was left out, if it was left out with one
+-- at the spot of its element, in order, and one where it broke, if it did; and for each refusal the invocation with
+-- which its element was left out, if it was left out with one
 pub record IsFoundIn (text : List ℕ) (log : Log) (found : TraceFindings) : Type 0 where
   pub pieces : List ElementModel
   pub are : AreElementsBefore text pieces

@@ -26,8 +26,8 @@ use tower_file::TowerFault;
 /// For how many findings of each code, at most, a word is suggested that may have been meant.
 const SUGGESTED: usize = 3;
 
-/// What is printed from: the files, what was found in them, what of it is in other blocks, and how many of each code are
-/// shown.
+/// What is printed from: the files, what was found in them, what of it is in other blocks, and how many of each code
+/// are shown.
 #[derive(Clone, Copy)]
 struct View<'a> {
     alloc: Global,
@@ -37,8 +37,8 @@ struct View<'a> {
     most: usize,
 }
 
-/// A finding, its file, where the tower file says who may write, the width of the line numbers, and how many findings of
-/// the code were shown before.
+/// A finding, its file, where the tower file says who may write, the width of the line numbers, and how many findings
+/// of the code were shown before.
 #[derive(Clone, Copy)]
 struct Case<'c, 'a> {
     view: &'c View<'a>,
@@ -86,11 +86,16 @@ fn push_trace(
     if found.findings.is_empty() && found.notes.is_empty() {
         return Ok(());
     }
-    push_hints(text, view, trace, found.spots.is_empty())?;
+    push_hints(text, view, trace, is_of_tower(found))?;
     let (first, others) = rests_and_others(found.notes.as_slice());
     push_notes(text, view, trace, first, 0, tally)?;
     push_problems(text, view, trace, found, tally)?;
     push_notes(text, view, trace, others, first.len(), tally)
+}
+
+/// Whether the file is looked at as a tower file. It has no elements then, and of a trace that has none this is noted.
+fn is_of_tower(found: &TraceFindings) -> bool {
+    found.spots.is_empty() && !found.has_note("L2")
 }
 
 /// The notes that say what a failure rests on, which come first, and the others.
@@ -322,8 +327,8 @@ fn once(case: &Case, code: &Code) -> &'static str {
     }
 }
 
-/// What a refused element may have meant, behind its mark: its key for a field that it lacks, and for the first findings
-/// of each code a word. The last file, after the traces, is the tower file.
+/// What a refused element may have meant, behind its mark: its key for a field that it lacks, and for the first
+/// findings of each code a word. The last file, after the traces, is the tower file.
 fn push_suggestion(text: &mut String, case: &Case, code: &Code) -> Result<(), AllocError> {
     let alloc = case.view.alloc;
     let (Some(element), Some(last)) = (refused_text(case), case.view.sources.last()) else {

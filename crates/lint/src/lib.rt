@@ -16,9 +16,9 @@
 //! another finding.
 //!
 //! Begin with `find::lint_traces`: its clause names what is found by the logs of a run (`specs/Found.antt`): one
-//! finding for each refusal and for each break, and no others. `specs/LeftWith.antt` has what was left out with a refused
-//! invocation, `specs/Grade.antt` the status, and `specs/Short.antt` the form with a line for each finding; `places` has
-//! lines, columns and the spot of an element. The other forms are tested by `rows`.
+//! finding for each refusal and for each break, and no others. `specs/LeftWith.antt` has what was left out with a
+//! refused invocation, `specs/Grade.antt` the status, and `specs/Short.antt` the form with a line for each finding;
+//! `places` has lines, columns and the spot of an element. The other forms are tested by `rows`.
 #![tactic(auto)]
 
 mod bracket;

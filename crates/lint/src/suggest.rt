@@ -45,7 +45,8 @@ pub fn meant_in_element<'t>(
     }
 }
 
-/// What a refused element has where what it lacks is looked for, or what it is to have there; empty where nothing is known.
+/// What a refused element has where what it lacks is looked for, or what it is to have there; empty where nothing is
+/// known.
 pub fn instead_in_element(alloc: Global, text: &[u8], code: &Code) -> &'static str {
     let Some(element) = element_in(alloc, text) else {
         return "";

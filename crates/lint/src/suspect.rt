@@ -47,8 +47,8 @@ impl<'t> Suspects<'t> {
     }
 }
 
-/// The note on an element on which this failure rests, with the operation that it touches, a read before a write, or else
-/// with the first one that shows the failure.
+/// The note on an element on which this failure rests, with the operation that it touches, a read before a write, or
+/// else with the first one that shows the failure.
 fn note_beside(witness: &Witness, about: &About, is_edit: bool) -> Option<Note> {
     let mut first = None;
     let mut write = None;

@@ -36,8 +36,8 @@ pub fn refusals_by_code_are_all()
     ensures { (logs : List Log) → sum_by (λ code. refused_by code logs) refusal_codes ≡ refused logs }
 {}
 
-/// The codes of refusals by frequency are the same codes: none is more frequent than one before it, and of those that are
-/// as frequent as each other all are there, in the order that they had.
+/// The codes of refusals by frequency are the same codes: none is more frequent than one before it, and of those that
+/// are as frequent as each other all are there, in the order that they had.
 pub fn refusals_come_by_frequency()
     ensures falls { (listed : List RefusedCode) → IsByFrequency (by_frequency listed) }
     ensures each { (listed : List RefusedCode) (many : ℕ) → filter (is_as_frequent many) (by_frequency listed) ≡ filter (is_as_frequent many) listed }

@@ -29,8 +29,8 @@ pub fn each_code_has_an_entry()
     ensures hints { AllByRecursion NamesItself hint_codes }
 {}
 
-/// The name of each code names it, as it is printed and in small letters; but `Memory`, which four codes have, names the
-/// first of them.
+/// The name of each code names it, as it is printed and in small letters; but `Memory`, which four codes have, names
+/// the first of them.
 pub fn each_name_names_its_code()
     ensures names { AllByRecursion IsFoundByName codes_of_own_name }
     ensures memory { code_of (codes "Memory") ≡ Some (codes "E7") }
