@@ -45,6 +45,6 @@ pub use findings::RunFindings;
 pub use listing::{level_name, tower_text};
 pub use notes::push_broken;
 pub use order::order_of;
-pub use refused::{count_refused, push_refused};
+pub use refused::{CodeTally, count_refused, first_refused, push_refused, tallies_of};
 pub use section::push_section;
 pub use text::report;

@@ -13,10 +13,10 @@ use texts::{Explanation, refusals};
 
 /// A code by which elements were refused, its name, and how many they are.
 #[derive(Clone, Copy)]
-struct CodeTally {
-    code: &'static str,
-    name: &'static str,
-    many: u128,
+pub struct CodeTally {
+    pub code: &'static str,
+    pub name: &'static str,
+    pub many: u128,
 }
 
 /// The line of the refusals: how many, by code, the most frequent first, and where the first of each is.
@@ -34,7 +34,7 @@ pub fn push_refused(text: &mut String, alloc: Global, logs: &[Log]) -> Result<()
 }
 
 /// The codes by which elements were refused, the most frequent first.
-fn tallies_of(alloc: Global, logs: &[Log]) -> Result<Vec<CodeTally>, AllocError>
+pub fn tallies_of(alloc: Global, logs: &[Log]) -> Result<Vec<CodeTally>, AllocError>
     ensures { IfOk result (λ tallies. tallied tallies.items ≡ by_frequency (refused_codes logs.now named_refusal_codes)) }
 {
     let parts: [&'static [Explanation]; 3] = refusals();
@@ -168,7 +168,7 @@ fn count_by_in(log: &Log, code: &str) -> usize
 }
 
 /// The first element that was refused by this code: the number of its trace and its place there.
-fn first_refused(logs: &[Log], code: &str) -> Option<(usize, u64)>
+pub fn first_refused(logs: &[Log], code: &str) -> Option<(usize, u64)>
     ensures { result ≡ first_refused code.now 0 logs.now }
 {
     for feeder in 0..logs.len() {

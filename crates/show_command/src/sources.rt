@@ -4,7 +4,7 @@ use intervals::OpId;
 use logs::{Log, What};
 use phrases::push_printed;
 use places::{Location, elements_of};
-use report::{Doubt, push_broken};
+use report::{CodeTally, Doubt, count_refused, first_refused, push_broken, tallies_of};
 use show::Lettered;
 use std::alloc::{AllocError, Global};
 
@@ -17,14 +17,6 @@ pub struct Sources<'n, 's, 't> {
     names: &'n [&'s str],
     texts: &'t [Vec<u8>],
     spots: Vec<Vec<Location>>,
-}
-
-/// The elements that were left out for a code: how many, and the first of them, by its trace and its number there.
-#[derive(Clone, Copy)]
-struct CodeCount {
-    code: &'static str,
-    many: u64,
-    first: (usize, u64),
 }
 
 impl<'n, 's, 't> Sources<'n, 's, 't> {
@@ -116,19 +108,20 @@ impl<'n, 's, 't> Sources<'n, 's, 't> {
         }
     }
 
-    /// What was not judged: the elements that were left out, by code, with the first of each, and where traces broke.
-    /// Nothing where all was judged.
+    /// What was not judged: the elements that were left out, by code, the most frequent first, with the first of each,
+    /// and where traces broke. Nothing where all was judged.
     pub fn push_left_out(
         &self,
         text: &mut String,
         alloc: Global,
         logs: &[Log],
     ) -> Result<(), AllocError> {
-        let counts = count_codes(alloc, logs)?;
-        if !counts.is_empty() {
-            write!(text, "refused {}:", total(&counts))?;
-            for count in &counts {
-                self.push_count(text, count)?;
+        let tallies = tallies_of(alloc, logs)?;
+        if !tallies.is_empty() {
+            write!(text, "refused {}", count_refused(logs))?;
+            for at in 0..tallies.len() {
+                text.push_str(if at == 0 { ": " } else { ", " })?;
+                self.push_tally(text, logs, &tallies[at])?;
             }
             text.push_str("\n")?;
         }
@@ -138,9 +131,17 @@ impl<'n, 's, 't> Sources<'n, 's, 't> {
         Ok(())
     }
 
-    fn push_count(&self, text: &mut String, count: &CodeCount) -> Result<(), AllocError> {
-        write!(text, " {} {} (first ", count.code, count.many)?;
-        let (trace, number) = count.first;
+    fn push_tally(
+        &self,
+        text: &mut String,
+        logs: &[Log],
+        tally: &CodeTally,
+    ) -> Result<(), AllocError> {
+        write!(text, "{} {} {}", tally.code, tally.name, tally.many)?;
+        let Some((trace, number)) = first_refused(logs, tally.code) else {
+            return Ok(());
+        };
+        text.push_str(" (first ")?;
         self.push_place(text, trace, number)?;
         text.push_str(")")
     }
@@ -232,46 +233,6 @@ fn count_refused_in(log: &Log) -> u64 {
         if let What::Refused(_) = &line.what {
             many = many.saturating_add(1);
         }
-    }
-    many
-}
-
-/// The codes for which elements were left out, in the order in which they come.
-fn count_codes(alloc: Global, logs: &[Log]) -> Result<Vec<CodeCount>, AllocError> {
-    let mut counts = Vec::new(alloc);
-    for trace in 0..logs.len() {
-        for line in &logs[trace].lines {
-            if let What::Refused(left_out) = &line.what {
-                count_code(&mut counts, left_out.code.code(), (trace, line.event))?;
-            }
-        }
-    }
-    Ok(counts)
-}
-
-fn count_code(
-    counts: &mut Vec<CodeCount>,
-    code: &'static str,
-    at: (usize, u64),
-) -> Result<(), AllocError> {
-    for count in counts.iter_mut() {
-        if count.code == code {
-            count.many = count.many.saturating_add(1);
-            return Ok(());
-        }
-    }
-    counts.push(CodeCount {
-        code,
-        many: 1,
-        first: at,
-    })?;
-    Ok(())
-}
-
-fn total(counts: &[CodeCount]) -> u64 {
-    let mut many: u64 = 0;
-    for count in counts {
-        many = many.saturating_add(count.many);
     }
     many
 }
