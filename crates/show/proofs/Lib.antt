@@ -1,5 +1,7 @@
 -- labels fit in their bars
 mod Fitting
+-- the front of the moments of a picture
+mod Fronts
 -- the letters of the writes that a wrong read overlaps
 mod Lettering
 -- what a scene shows of the operations that stand

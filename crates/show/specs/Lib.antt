@@ -1,6 +1,7 @@
 -- words of the public clauses
 pub mod Caption
 pub mod Escape
+pub mod Front
 pub mod Label
 pub mod Layout
 pub mod Letter

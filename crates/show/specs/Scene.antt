@@ -1,5 +1,6 @@
 -- What a picture shows: operations with their labels, marks and seats.
-use Rattle.std.specs.Prelude.{◌≡◌, ◌*◌, ◌-◌, ◌^◌, ◌++◌, true, min, List, [], ◌∷◌, Option, Some, None, length, map, string_bytes}
+use Rattle.std.specs.Prelude.{◌≡◌, ◌*◌, ◌-◌, ◌^◌, ◌++◌, true, min, List, [], ◌∷◌, Option, Some, None, drop, length, map, string_bytes}
+use Rattle.std.specs.Fmt.{decimal}
 use Rattle.intervals.specs.declared.operation.Op.{Op}
 use Rattle.intervals.specs.declared.operation.OpId.{OpId}
 use Rattle.intervals.specs.Least.{least_by}
@@ -17,6 +18,7 @@ use Rattle.timeline.specs.Seat.{AreSeats}
 use Rattle.show.specs.declared.letter.Lettered.{Lettered}
 use Rattle.show.specs.declared.scene.Scene.{Scene}
 use Rattle.show.specs.declared.subject.Subject.{Subject}
+use Rattle.show.specs.Front.{front_of}
 use Rattle.show.specs.Label.{label_by}
 use Rattle.show.specs.Letter.{letters_of}
 use Rattle.show.specs.Rank.{rank_of}
@@ -58,7 +60,7 @@ abbrev pub asked_ids : List Op → Option Witness → WritesAround → List Lett
 asked_ids ops witness around letters = map (λ (lettered : Lettered). lettered.id) letters ++ asked_beside ops witness around
 
 -- the scene of a register: of the operations that stand those that the timeline chooses, each with its rank, its label,
--- its marks and its seat; the others are counted between the marks
+-- its marks and its seat; the others are counted between the marks, and the label of a mark is its moment after the front
 pub record IsScene (subject : Subject) (extent : Extent) (scene : Scene) : Type 0 where
   pub witness : scene.witness ≡ subject.witness
   pub around : AreAroundOf (ops_in_slots subject.slots.now) scene.witness scene.around
@@ -69,6 +71,8 @@ pub record IsScene (subject : Subject) (extent : Extent) (scene : Scene) : Type 
   pub ranks : scene.ranks.items ≡ map (λ op. rank_of subject.order.now op.id) scene.ops.items
   pub labels : map (λ label. string_bytes label) scene.labels.items ≡ map (λ op. label_by scene.letters.items (rank_of subject.order.now op.id) op) scene.ops.items
   pub marks : AreMarks scene.ops.items scene.marks.items
+  pub front : string_bytes scene.front ≡ front_of (map (λ mark. decimal mark.moment.0) scene.marks.items)
+  pub moments : map (λ label. string_bytes label) scene.moments.items ≡ map (λ mark. drop (length (string_bytes scene.front)) (decimal mark.moment.0)) scene.marks.items
   pub spans : AreSpans scene.ops.items scene.marks.items scene.spans.items
   pub folded : scene.folded.items ≡ folded_of 0 scene.marks.items chosen.hidden.items
   pub seats : AreSeats scene.ops.items scene.seats.items

@@ -2,8 +2,8 @@
 
 use crate::canvas::{Canvas, wide, window_of};
 use crate::filled::{Filling, ops_word, push_filled, push_numbers};
-use crate::layout::Layout;
-use crate::measure::{digits_of, digits_of_moment};
+use crate::layout::{Layout, Window};
+use crate::measure::digits_of;
 use std::alloc::AllocError;
 
 /// The line below the lanes, and the moments: first those that the caption speaks of, then each other that has room.
@@ -28,13 +28,13 @@ pub fn push_axis(text: &mut String, canvas: &Canvas) -> Result<(), AllocError> {
     )
 }
 
-/// The moments that the caption speaks of, from left to right, but for one that has no room right of another, or beside
-/// the numbers of operations left out.
+/// The moments that the caption speaks of, from left to right, but for one that has no room in its row, right of another,
+/// or beside the numbers of operations left out.
 fn push_told(text: &mut String, canvas: &Canvas) -> Result<(), AllocError> {
     let mut free = 0;
     for number in &canvas.layout.told {
         let (left, right) = room_of(&canvas.layout, *number);
-        if free <= left && !is_in_folds(&canvas.layout, *number, left, right) {
+        if free <= left && has_room(&canvas.layout, *number, left, right) {
             push_moment(text, canvas, *number, true)?;
             free = right.saturating_add(6);
         }
@@ -47,7 +47,10 @@ fn push_others(text: &mut String, canvas: &Canvas) -> Result<(), AllocError> {
     let mut free = 0;
     for number in 0..canvas.layout.scene.marks.len() {
         let (left, right) = room_of(&canvas.layout, number);
-        if free <= left && !is_taken(&canvas.layout, number, left, right) {
+        if free <= left
+            && has_room(&canvas.layout, number, left, right)
+            && !is_taken(&canvas.layout, left, right)
+        {
             push_moment(text, canvas, number, false)?;
             free = right.saturating_add(6);
         }
@@ -72,24 +75,15 @@ fn push_moment(
             Filling::Number(left.saturating_add(length / 2)),
             Filling::Number(canvas.bottom.saturating_add(18)),
             Filling::Number(length),
-            Filling::Number(moment_of(&canvas.layout, number) as u128),
+            Filling::Word(canvas.layout.moment(number)),
         ],
     )
 }
 
-fn moment_of(layout: &Layout, number: usize) -> u64 {
-    if number < layout.scene.marks.len() {
-        layout.scene.marks[number].moment.0
-    } else {
-        0
-    }
-}
-
 /// Where the moment of a mark is written, from left to right: with its middle below the mark, but within its row.
 fn room_of(layout: &Layout, number: usize) -> (u128, u128) {
-    let length = wide(digits_of_moment(moment_of(layout, number)));
-    let row = layout.starts.partition_point(|start| *start <= number);
-    let window = window_of(layout, row.saturating_sub(1));
+    let length = wide(layout.moment(number).len());
+    let window = row_of(layout, number);
     let left = layout
         .place_of(number)
         .saturating_sub(length / 2)
@@ -98,15 +92,26 @@ fn room_of(layout: &Layout, number: usize) -> (u128, u128) {
     (left, left.saturating_add(length))
 }
 
-/// Whether a moment that the caption speaks of, or the number of operations left out, is in the way.
-fn is_taken(layout: &Layout, number: usize, left: u128, right: u128) -> bool {
+/// The window of the row of a mark.
+fn row_of(layout: &Layout, number: usize) -> Window {
+    let row = layout.starts.partition_point(|start| *start <= number);
+    window_of(layout, row.saturating_sub(1))
+}
+
+/// Whether the row of a mark is wide enough for its moment, and no number of operations left out is in the way.
+fn has_room(layout: &Layout, number: usize, left: u128, right: u128) -> bool {
+    right <= row_of(layout, number).to && !is_in_folds(layout, number, left, right)
+}
+
+/// Whether a moment that the caption speaks of is in the way.
+fn is_taken(layout: &Layout, left: u128, right: u128) -> bool {
     for told in &layout.told {
         let (from, to) = room_of(layout, *told);
         if left <= to.saturating_add(6) && from <= right.saturating_add(6) {
             return true;
         }
     }
-    is_in_folds(layout, number, left, right)
+    false
 }
 
 /// Whether the number of operations left out before some mark is in the way of the moment of this one. A moment of twenty

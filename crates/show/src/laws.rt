@@ -1,14 +1,16 @@
-//! Laws of scenes. Each is the contract of a function that only calls the laws of the timeline on which it rests.
+//! Laws of scenes. Each is the contract of a function that calls no more than the laws of the timeline on which it rests.
 
-ghost use Rattle.std.specs.Prelude.{◌≡◌, ◌↔◌, ◌+◌, ◌++◌, ◌<◌, ◌≤◌, ℕ, All, Contains, IsPermutation, List, Some, drop, length, slice_index, sum};
+ghost use Rattle.std.specs.Prelude.{◌≡◌, ◌↔◌, ◌+◌, ◌++◌, ◌<◌, ◌≤◌, ℕ, All, Contains, IsPermutation, List, Some, drop, length, slice_index, string_bytes, sum};
 ghost use Rattle.std.specs.declared.alloc.Global.{Global};
 ghost use Rattle.std.specs.declared.string.String.{String};
+ghost use Rattle.std.specs.Fmt.{decimal};
 ghost use Rattle.std.specs.List.{slice_get};
 ghost use Rattle.intervals.specs.declared.operation.Op.{Op};
 ghost use Rattle.intervals.specs.Operation.{Precedes};
 ghost use Rattle.intervals.specs.Standing.{HasEndsAfterBeginnings};
 ghost use Rattle.intervals.specs.Table.{ops_in_slots};
 ghost use Rattle.timeline.specs.declared.axis.BarSpan.{BarSpan};
+ghost use Rattle.timeline.specs.declared.axis.Mark.{Mark};
 ghost use Rattle.timeline.specs.declared.choice.Extent.{Extent};
 ghost use Rattle.timeline.specs.declared.place.Want.{Want};
 ghost use Rattle.timeline.specs.Place.{AreSpaced, IsDistanceKept};
@@ -16,6 +18,7 @@ ghost use Rattle.show.specs.declared.letter.Letter.{Letter};
 ghost use Rattle.show.specs.declared.measure.Measure.{Measure};
 ghost use Rattle.show.specs.declared.scene.Scene.{Scene};
 ghost use Rattle.show.specs.declared.subject.Subject.{Subject};
+ghost use Rattle.show.specs.Front.{GoesOnAfter, front_of};
 ghost use Rattle.show.specs.Letter.{letter_for};
 ghost use Rattle.show.specs.Measure.{span_end_mark, label_width, wanted_of};
 ghost use Rattle.show.specs.Scene.{IsScene};
@@ -66,3 +69,15 @@ pub fn labels_fit_in_their_bars()
 {
     laws::ends_left_of_what_it_precedes();
 }
+
+/// Each mark of a scene has a label, and the front and the label together are its moment as it is printed.
+pub fn a_moment_is_the_front_and_its_label()
+    ensures { (subject : Subject) (extent : Extent) (scene : Scene) (number : ℕ) (mark : Mark) → IsScene subject extent scene → slice_get scene.marks.items number ≡ Some mark
+        → (label : String Global) × (slice_get scene.moments.items number ≡ Some label) × (string_bytes scene.front ++ string_bytes label ≡ decimal mark.moment.0) }
+{}
+
+/// Where moments have a front each goes on after it, and there is no longer one after which each goes on.
+pub fn a_front_is_the_longest()
+    ensures each { (moments : List (List ℕ)) → 0 < length (front_of moments) → All (GoesOnAfter (front_of moments)) moments }
+    ensures longest { (moments : List (List ℕ)) (front : List ℕ) → 0 < length (front_of moments) → All (GoesOnAfter front) moments → length front ≤ length (front_of moments) }
+{}

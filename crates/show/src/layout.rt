@@ -174,6 +174,14 @@ impl<'s, 't> Layout<'s, 't> {
         left.saturating_add(right.saturating_sub(left) / 2)
     }
 
+    /// The label of the moment of a mark; empty where there is no such mark.
+    pub fn moment(&self, number: usize) -> &'s str {
+        match self.scene.moments.get(number) {
+            Some(label) => label.as_str(),
+            None => "",
+        }
+    }
+
     /// Where an operation begins; the left edge where it is not shown.
     pub fn begin_of(&self, op: &Op) -> u128 {
         match begin_mark(self.scene, op) {

@@ -11,17 +11,18 @@
 //! A subject is a register with the operations that stand and the witness. `letter.rt` gives letters to the operations
 //! of the witness, by their roles, and to the writes around a wrong read; `rank.rt` says which place each operation has
 //! in an order that explains the reads, and `scene.rt` chooses which operations are shown, with their marks and lanes, by
-//! the crate `timeline`. `measure.rt` says how wide things are, `layout.rt` how far right they are. Two files draw that:
-//! `text.rt` in lines of cells (`line.rt`, with the characters of `glyphs.rt`), and `svg.rt` on a canvas
-//! (`canvas.rt`), with the parts of a picture (`strip.rt`, `bar.rt`, `axis.rt`) and the colours of `colour.rt` and
-//! `style.rt`. Both draw the zones of a conflict (`zone.rt`), lanes by process, and the moments below; the moments
-//! that the sentences speak of (`told.rt`) come first. `title.rt` has the first line, `caption.rt` the sentences;
-//! `page.rt` puts pictures on a page. `filled.rt` fills numbers, words and values into their texts.
+//! the crate `timeline`; `front.rt` cuts from the moments what all begin with. `measure.rt` says how wide things are,
+//! `layout.rt` how far right they are. Two files draw that: `text.rt` in lines of cells (`line.rt`, with the characters
+//! of `glyphs.rt`), and `svg.rt` on a canvas (`canvas.rt`), with the parts of a picture (`strip.rt`, `bar.rt`, `axis.rt`)
+//! and the colours of `colour.rt` and `style.rt`. Both draw the zones of a conflict (`zone.rt`), lanes by process, and the
+//! moments below; the moments that the sentences speak of (`told.rt`) come first. `title.rt` has the first line,
+//! `caption.rt` the sentences; `page.rt` puts pictures on a page. `filled.rt` fills numbers, words and values into their
+//! texts.
 //!
 //! Begin with `laws.rt`: an operation that is shown stands, and is shown once; those that are shown and those that are
 //! counted are all; one that has a letter is shown; of two the first ends left of where the second begins exactly where
-//! it precedes it; and each label fits in its bar. `layout.rt` says what a layout keeps, and `escape.rt` how a text is
-//! written.
+//! it precedes it; each label fits in its bar; and a moment is the front and its label. `layout.rt` says what a layout
+//! keeps, and `escape.rt` how a text is written.
 #![tactic(auto)]
 
 mod axis;
@@ -31,6 +32,7 @@ mod caption;
 mod colour;
 mod escape;
 mod filled;
+mod front;
 mod glyphs;
 mod label;
 pub mod laws;

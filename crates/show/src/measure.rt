@@ -206,10 +206,10 @@ fn label_width(scene: &Scene, measure: &Measure, number: usize) -> u32
     }
 }
 
-/// The width of the moment of a mark, and of a blank after it.
+/// The width of the label of the moment of a mark, and of a blank after it.
 fn moment_width(scene: &Scene, measure: &Measure, number: usize) -> u32 {
-    match scene.marks.get(number) {
-        Some(mark) => width_of(measure, digits_of_moment(mark.moment.0).saturating_add(1)),
+    match scene.moments.get(number) {
+        Some(label) => width_of(measure, label.as_str().len().saturating_add(1)),
         None => 0,
     }
 }

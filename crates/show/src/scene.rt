@@ -8,6 +8,7 @@ ghost use Rattle.intervals.specs.Table.{ops_in_slots};
 ghost use Rattle.show.specs.Label.{label_by};
 ghost use Rattle.show.specs.Scene.{AreAroundOf, IsScene, asked_ids, asked_beside, extent_of, first_to_begin, ids_of_optional};
 
+use crate::front::{front_of, moments_of};
 use crate::label::{head_of, push_label};
 use crate::letter::{Lettered, letter_for, letters_of};
 use crate::rank::{places_of, rank_in, ranks_in};
@@ -60,6 +61,10 @@ pub struct Scene<'t> {
     pub ranks: Vec<Option<usize>>,
     pub labels: Vec<String>,
     pub marks: Vec<Mark>,
+    /// The digits that the moments of all marks begin with, and that their labels leave out.
+    pub front: String,
+    /// The label of the moment of each mark.
+    pub moments: Vec<String>,
     pub spans: Vec<BarSpan>,
     /// How many operations that are not shown began between each mark and the one before it; last, after all.
     pub folded: Vec<usize>,
@@ -82,6 +87,8 @@ fn scene_of<'t>(
     let extent = extent_of(&subject.witness, extent);
     let chosen = choose(alloc, subject.slots, &asked, extent)?;
     let marks = marks(alloc, &chosen.shown)?;
+    let front = front_of(alloc, &marks)?;
+    let moments = moments_of(alloc, &marks, front.len())?;
     let spans = spans(alloc, &chosen.shown, &marks)?;
     let folded = folded(alloc, &marks, &chosen.hidden)?;
     let seats = seats(alloc, &chosen.shown)?;
@@ -97,6 +104,8 @@ fn scene_of<'t>(
         ranks,
         labels,
         marks,
+        front,
+        moments,
         spans,
         folded,
         seats,

@@ -10,7 +10,9 @@ use crate::caption::push_caption;
 use crate::colour::{Colour, caption_colours};
 use crate::escape::push_element;
 use crate::filled::{Filling, ops_word, push_filled, push_numbers};
+use crate::front::push_front;
 use crate::layout::{Window, push_lane_name};
+use crate::measure::digits_of;
 use crate::scene::{Scene, Sketch};
 use crate::strip::push_strip;
 use crate::style::{Theme, push_style};
@@ -111,6 +113,7 @@ fn picture_height(canvas: &Canvas, caption: &str) -> u128 {
 
 fn picture_width(canvas: &Canvas, heading: &str, caption: &str) -> u128 {
     words_width(heading, caption)
+        .max(front_width(canvas.layout.scene))
         .saturating_add(32)
         .max(rows_width(canvas))
 }
@@ -125,6 +128,17 @@ fn words_width(heading: &str, caption: &str) -> u128 {
     width
 }
 
+/// The width of the line above the picture, where it has the front of the moments.
+fn front_width(scene: &Scene) -> u128 {
+    if scene.front.is_empty() {
+        return 0;
+    }
+    let numbers = digits_of(scene.all)
+        .saturating_mul(2)
+        .saturating_add(scene.front.len());
+    wide(numbers.saturating_add(SCALE.len() + MOMENTS.len() + BELOW.len() + 17))
+}
+
 /// The width of the widest row, with the names of lanes.
 fn rows_width(canvas: &Canvas) -> u128 {
     let mut width: u128 = 0;
@@ -135,6 +149,11 @@ fn rows_width(canvas: &Canvas) -> u128 {
 }
 
 const SCALE: &str = "Left to right by the order of moments, not to scale.";
+
+/// What is said of the front of the moments, where they have one.
+const MOMENTS: &str = " Moments: ";
+
+const BELOW: &str = ".. and the digits below.";
 
 fn push_head(text: &mut String, heading: &str) -> Result<(), AllocError>
     ensures { OnOk result (string_bytes text.new ≡ string_bytes text.old ++ heading_text heading.now) }
@@ -163,7 +182,9 @@ fn push_count(text: &mut String, scene: &Scene) -> Result<(), AllocError> {
             &[shown, all],
         )?;
     }
-    write!(text, "{SCALE}</text>\n")
+    text.push_str(SCALE)?;
+    push_front(text, MOMENTS, &scene.front, BELOW)?;
+    text.push_str("</text>\n")
 }
 
 /// Adds the strip, once where it has one row, and for each row a window on it.

@@ -1,6 +1,7 @@
 //! A picture in lines of a terminal.
 
 use crate::caption::push_caption;
+use crate::front::push_front;
 use crate::glyphs::{ASCII, DRAWN, Glyphs};
 use crate::label::push_value;
 use crate::layout::{
@@ -9,7 +10,7 @@ use crate::layout::{
 };
 use crate::letter::{is_wrong, letter_for, short_label};
 use crate::line::TextLine;
-use crate::measure::{Measure, digits_of, digits_of_moment, with_last_moment};
+use crate::measure::{Measure, digits_of, with_last_moment};
 use crate::scene::{Scene, Sketch};
 use crate::subject::Subject;
 use crate::title::push_title;
@@ -62,6 +63,7 @@ pub fn push_timeline(
 ) -> Result<(), AllocError> {
     let (subject, scene) = (&sketch.subject, &sketch.scene);
     push_title(text, alloc, subject, scene, look.is_ascii)?;
+    push_front(text, "moments: ", &scene.front, ".. and the digits below\n")?;
     if !scene.ops.is_empty() {
         push_drawing(text, alloc, subject, scene, look)?;
     }
@@ -466,11 +468,11 @@ fn put_moment(line: &mut TextLine, layout: &Layout, window: &Cells, number: usiz
     if number < window.first || number >= window.end || number >= layout.scene.marks.len() {
         return;
     }
-    let moment = layout.scene.marks[number].moment.0;
-    let wide = digits_of_moment(moment) as u128;
+    let moment = layout.moment(number);
+    let wide = moment.len() as u128;
     let place = layout.place_of(number).min(window.to.saturating_sub(wide));
     if has_room(line, window, place, wide) {
-        line.put_number(place, moment);
+        line.put_text(place, moment);
     }
 }
 
