@@ -184,7 +184,7 @@ impl TraceFindings {
         self.processes.contains(&process)
     }
 
-    pub(crate) fn has_note(&self, code: &str) -> bool
+    fn has_note(&self, code: &str) -> bool
         ensures { result ≡ list_any (is_of_code code.now) self.now.notes.items }
     {
         self.notes.iter().any(|note| note.what.code() == code)

@@ -95,7 +95,14 @@ fn push_trace(
 
 /// Whether the file is looked at as a tower file. It has no elements then, and of a trace that has none this is noted.
 fn is_of_tower(found: &TraceFindings) -> bool {
-    found.spots.is_empty() && !found.has_note("L2")
+    found.spots.is_empty() && !found.notes.iter().any(|note| is_of_no_operation(note.what))
+}
+
+fn is_of_no_operation(what: Amiss) -> bool {
+    match what {
+        Amiss::Noted(_, Note::NoOperation) => true,
+        _ => false,
+    }
 }
 
 /// The notes that say what a failure rests on, which come first, and the others.
