@@ -10,11 +10,7 @@ use Rattle.std.specs.List.{slice_get}
 use Rattle.std.specs.Prelude.{◌==◌, ◌^◌, All, option_map, string_bytes}
 use Rattle.std.specs.Str.{IsCharBoundary}
 use Rattle.timeline.specs.declared.axis.Mark.{Mark}
-use Rattle.timeline.specs.declared.choice.Extent.{Extent}
-use Rattle.show.specs.declared.scene.Scene.{Scene}
-use Rattle.show.specs.declared.subject.Subject.{Subject}
 use Rattle.show.specs.Front.{GoesOnAfter, common_digits, common_to_all, cut_of, equal_digits, front_of}
-use Rattle.show.specs.Scene.{IsScene}
 
 -- digits may be cut anywhere
 pub cut_anywhere : (text : List ℕ) (number at : ℕ) → number < 2 ^ 64 → text ≡ decimal number → at ≤ length text → IsCharBoundary text at
@@ -145,26 +141,26 @@ pub longest_of : (moments : List (List ℕ)) (front : List ℕ) → 0 < length (
 longest_of [] front some each = absurd (omega (arith, some))
 longest_of (first ∷ others) front some each = longest first others front some each
 
--- the label of a mark of a scene
+-- the labels of marks
 
 some_of : {X Y : Type 0} (f : X → Y) (found : Option X) (y : Y) → option_map f found ≡ Some y → (x : X) × (found ≡ Some x) × (f x ≡ y)
 some_of f None y is = absurd (cc)
 some_of f (Some x) y is = (x, refl, same_Some (f x) y is)
 
-module _ (subject : Subject) (extent : Extent) (scene : Scene) (is : IsScene subject extent scene) where
-  abbrev printed : Mark → List ℕ
-  printed mark = decimal mark.moment.0
+abbrev printed : Mark → List ℕ
+printed mark = decimal mark.moment.0
 
-  pub labelled : (number : ℕ) (mark : Mark) → slice_get scene.marks.items number ≡ Some mark
-      → (label : String Global) × (slice_get scene.moments.items number ≡ Some label) × (string_bytes scene.front ++ string_bytes label ≡ printed mark)
-  labelled number mark at =
-      let cut = length (string_bytes scene.front) in
-      let at_moment : slice_get (map printed scene.marks.items) number ≡ Some (printed mark) = slice_get-map printed scene.marks.items number ∙ ap (option_map printed) at in
-      let at_label : option_map (λ (label : String Global). string_bytes label) (slice_get scene.moments.items number) ≡ Some (drop cut (printed mark)) =
-      sym (slice_get-map (λ (label : String Global). string_bytes label) scene.moments.items number)
-      ∙ ap (λ (texts : List (List ℕ)). slice_get texts number) is.moments
-      ∙ slice_get-map (λ (m : Mark). drop cut (printed m)) scene.marks.items number
-      ∙ ap (option_map (λ (m : Mark). drop cut (printed m))) at in
-      let (label, found, left) = some_of (λ (l : String Global). string_bytes l) (slice_get scene.moments.items number) (drop cut (printed mark)) at_label in
-      let joins = moments_joined (map printed scene.marks.items) (printed mark) number at_moment in
-      (label, found, ap (λ rest. string_bytes scene.front ++ rest) left ∙ subst (λ (front : List ℕ). front ++ drop (length front) (printed mark) ≡ printed mark) (sym is.front) joins)
+abbrev bytes : String Global → List ℕ
+bytes label = string_bytes label
+
+pub labelled : (marks : List Mark) (front : String Global) (labels : List (String Global)) → bytes front ≡ front_of (map printed marks) → map bytes labels ≡ map (λ mark. drop (length (bytes front)) (printed mark)) marks
+    → (number : ℕ) (mark : Mark) → slice_get marks number ≡ Some mark → (label : String Global) × (slice_get labels number ≡ Some label) × (bytes front ++ bytes label ≡ printed mark)
+labelled marks front labels is_front are_labels number mark at =
+    let left : Mark → List ℕ = λ mark. drop (length (bytes front)) (printed mark) in
+    let moment : slice_get (map printed marks) number ≡ Some (printed mark) = slice_get-map printed marks number ∙ ap (option_map printed) at in
+    let text : option_map bytes (slice_get labels number) ≡ Some (left mark) =
+    sym (slice_get-map bytes labels number) ∙ ap (λ (texts : List (List ℕ)). slice_get texts number) are_labels ∙ slice_get-map left marks number ∙ ap (option_map left) at in
+    let (label, found, is) = some_of bytes (slice_get labels number) (left mark) text in
+    let joins : bytes front ++ left mark ≡ printed mark =
+    subst (λ (digits : List ℕ). digits ++ drop (length digits) (printed mark) ≡ printed mark) (sym is_front) (moments_joined (map printed marks) (printed mark) number moment) in
+    (label, found, ap (λ rest. bytes front ++ rest) is ∙ joins)

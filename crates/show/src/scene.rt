@@ -87,14 +87,14 @@ fn scene_of<'t>(
     let extent = extent_of(&subject.witness, extent);
     let chosen = choose(alloc, subject.slots, &asked, extent)?;
     let marks = marks(alloc, &chosen.shown)?;
-    let front = front_of(alloc, &marks)?;
-    let moments = moments_of(alloc, &marks, front.len())?;
     let spans = spans(alloc, &chosen.shown, &marks)?;
     let folded = folded(alloc, &marks, &chosen.hidden)?;
     let seats = seats(alloc, &chosen.shown)?;
     let places = places_of(alloc, subject.order)?;
     let ranks = ranks_in(alloc, &places, &chosen.shown)?;
     let labels = labels_of(alloc, &chosen.shown, &letters, &places)?;
+    let front = front_of(alloc, &marks)?;
+    let moments = moments_of(alloc, &marks, front.as_str().len())?;
     let all = chosen.shown.len() + chosen.hidden.len();
     Ok(Scene {
         witness: subject.witness,
