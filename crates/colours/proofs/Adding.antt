@@ -3,7 +3,7 @@ use Rattle.std.proofs.Common.{◌≡◌, ◌∙◌, ◌≤◌, ◌-◌, ◌≢�
 use Rattle.std.proofs.Math.Seq.{take-add}
 use Rattle.std.proofs.lemmas.List.{append_assoc, take-append-drop}
 use Rattle.std.proofs.lemmas.List.Elements.{All-drop, All-take}
-use Rattle.colours.specs.declared.escapes.Colour.{Colour}
+use Rattle.colours.specs.declared.escapes.TextColour.{TextColour}
 use Rattle.colours.specs.Painted.{Adds, IsInOneLine, IsPainted, nothing, plain, coloured, escape, reset}
 
 -- bytes that were added as they are
@@ -11,7 +11,7 @@ pub plainly : (bytes old new : List ℕ) → new ≡ old ++ bytes → Adds bytes
 plainly bytes old new is text so_far = subst (λ (shown : List ℕ). IsPainted (text ++ bytes) shown) (sym is) (plain so_far bytes)
 
 -- a part of a line that was added in a colour
-pub in_colour : (colour : Colour) (bytes old begun first new : List ℕ) → IsInOneLine bytes → begun ≡ old ++ escape colour → first ≡ begun ++ bytes
+pub in_colour : (colour : TextColour) (bytes old begun first new : List ℕ) → IsInOneLine bytes → begun ≡ old ++ escape colour → first ≡ begun ++ bytes
     → new ≡ first ++ reset → Adds bytes old new
 in_colour colour bytes old begun first new line begins goes ends text so_far =
     subst (λ (shown : List ℕ). IsPainted (text ++ bytes) shown) (sym whole) (coloured so_far colour bytes line)

@@ -1,10 +1,10 @@
 -- What a painted text is: a text with colours put in, and nothing else.
 use Rattle.std.specs.Prelude.{◌≢◌, ℕ, List, [], ◌∷◌, ◌++◌, All, codes}
-use Rattle.colours.specs.declared.escapes.Colour.{Colour}
-use Rattle.colours.specs.declared.escapes.Colour.TheVariants.{Red, Yellow, Green, Blue, Bold, Dim}
+use Rattle.colours.specs.declared.escapes.TextColour.{TextColour}
+use Rattle.colours.specs.declared.escapes.TextColour.TheVariants.{Red, Yellow, Green, Blue, Bold, Dim}
 
 -- the escape with which a colour begins
-abbrev pub escape : Colour → List ℕ
+abbrev pub escape : TextColour → List ℕ
 escape Red = 27 ∷ codes "[1;31m"
 escape Yellow = 27 ∷ codes "[1;33m"
 escape Green = 27 ∷ codes "[1;32m"
@@ -25,7 +25,7 @@ IsInOneLine = All (λ byte. byte ≢ 10)
 pub data IsPainted : List ℕ → List ℕ → Type 0 where
   nothing : IsPainted [] []
   plain : {text painted : List ℕ} → IsPainted text painted → (bytes : List ℕ) → IsPainted (text ++ bytes) (painted ++ bytes)
-  coloured : {text painted : List ℕ} → IsPainted text painted → (colour : Colour) (bytes : List ℕ) → IsInOneLine bytes
+  coloured : {text painted : List ℕ} → IsPainted text painted → (colour : TextColour) (bytes : List ℕ) → IsInOneLine bytes
       → IsPainted (text ++ bytes) (painted ++ (escape colour ++ (bytes ++ reset)))
 
 -- where these bytes were added to what is shown, it is what is shown of the text so far, with more bytes of the text

@@ -5,7 +5,7 @@ ghost use Rattle.colours.specs.Painted.{escape};
 
 /// A colour, all but `Dim` in bold letters; or such letters alone, or dim ones.
 #[derive(Clone, Copy)]
-pub enum Colour {
+pub enum TextColour {
     Red,
     Yellow,
     Green,
@@ -14,18 +14,18 @@ pub enum Colour {
     Dim,
 }
 
-impl Colour {
+impl TextColour {
     /// The escape with which the colour begins.
     pub(crate) fn escape(self) -> &'static str
         ensures { result.now ≡ escape self }
     {
         match self {
-            Colour::Red => "\u{1b}[1;31m",
-            Colour::Yellow => "\u{1b}[1;33m",
-            Colour::Green => "\u{1b}[1;32m",
-            Colour::Blue => "\u{1b}[1;34m",
-            Colour::Bold => "\u{1b}[1m",
-            Colour::Dim => "\u{1b}[2m",
+            TextColour::Red => "\u{1b}[1;31m",
+            TextColour::Yellow => "\u{1b}[1;33m",
+            TextColour::Green => "\u{1b}[1;32m",
+            TextColour::Blue => "\u{1b}[1;34m",
+            TextColour::Bold => "\u{1b}[1m",
+            TextColour::Dim => "\u{1b}[2m",
         }
     }
 }

@@ -11,5 +11,5 @@ mod escapes;
 mod line;
 mod painting;
 
-pub use escapes::Colour;
+pub use escapes::TextColour;
 pub use painting::paint;

@@ -3,16 +3,16 @@
 ghost use Rattle.std.specs.Prelude.{◌≤◌, ◌<◌, IsTrue, length};
 ghost use Rattle.colours.specs.declared.line.TheConstants.{HEAD_WIDTH};
 
-use crate::escapes::Colour;
+use crate::escapes::TextColour;
 use memchr::{memchr, memmem};
 
 /// A line in two parts, with blanks between them: its head, and the rest. A part without a colour stays as it is.
 #[derive(Clone, Copy)]
-pub(crate) struct Cut {
+pub(crate) struct LineCut {
     /// How many bytes the head has.
     pub(crate) head: usize,
-    pub(crate) colour: Option<Colour>,
-    pub(crate) rest: Option<Colour>,
+    pub(crate) colour: Option<TextColour>,
+    pub(crate) rest: Option<TextColour>,
 }
 
 /// How lines are painted that begin alike.
@@ -20,42 +20,42 @@ struct Rule {
     begins: &'static [u8],
     /// Whether the head goes up to the first colon; else it has no byte.
     up_to_colon: bool,
-    colour: Option<Colour>,
-    rest: Option<Colour>,
+    colour: Option<TextColour>,
+    rest: Option<TextColour>,
 }
 
 /// A head up to the first colon, of which nothing else is said.
 const HEAD: Rule = Rule {
     begins: b"",
     up_to_colon: true,
-    colour: Some(Colour::Bold),
+    colour: Some(TextColour::Bold),
     rest: None,
 };
 
 static RULES: [Rule; 11] = [
     Rule {
         begins: b"error[",
-        colour: Some(Colour::Red),
+        colour: Some(TextColour::Red),
         ..HEAD
     },
     Rule {
         begins: b"error:",
-        colour: Some(Colour::Red),
+        colour: Some(TextColour::Red),
         ..HEAD
     },
     Rule {
         begins: b"warning[",
-        colour: Some(Colour::Yellow),
+        colour: Some(TextColour::Yellow),
         ..HEAD
     },
     Rule {
         begins: b"note[",
-        colour: Some(Colour::Blue),
+        colour: Some(TextColour::Blue),
         ..HEAD
     },
     Rule {
         begins: b"help[",
-        colour: Some(Colour::Green),
+        colour: Some(TextColour::Green),
         ..HEAD
     },
     Rule {
@@ -64,12 +64,12 @@ static RULES: [Rule; 11] = [
     },
     Rule {
         begins: b"Tower: ",
-        rest: Some(Colour::Dim),
+        rest: Some(TextColour::Dim),
         ..HEAD
     },
     Rule {
         begins: b"Example: ",
-        rest: Some(Colour::Dim),
+        rest: Some(TextColour::Dim),
         ..HEAD
     },
     Rule {
@@ -83,7 +83,7 @@ static RULES: [Rule; 11] = [
     Rule {
         begins: b"         {",
         up_to_colon: false,
-        rest: Some(Colour::Dim),
+        rest: Some(TextColour::Dim),
         ..HEAD
     },
 ];
@@ -97,7 +97,7 @@ const HEAD_WIDTH: usize = 30;
 static SIGNS: [&[u8]; 4] = [b"-->", b":::", b"|", b"="];
 
 /// How a line is painted: by a rule, as the line of a register, by its gutter, or by the word with which it begins.
-pub(crate) fn cut_of(line: &[u8]) -> Cut
+pub(crate) fn cut_of(line: &[u8]) -> LineCut
     ensures { result.head ≤ length line.now }
 {
     for rule in &RULES {
@@ -112,21 +112,21 @@ pub(crate) fn cut_of(line: &[u8]) -> Cut
     if gutter > 0 {
         return cut_at_gutter(line, gutter);
     }
-    Cut {
+    LineCut {
         head: named_in(line),
-        colour: Some(Colour::Bold),
+        colour: Some(TextColour::Bold),
         rest: None,
     }
 }
 
-fn cut_by(rule: &Rule, line: &[u8]) -> Cut
+fn cut_by(rule: &Rule, line: &[u8]) -> LineCut
     ensures { result.head ≤ length line.now }
 {
     let head = match memchr(b':', line) {
         Some(colon) if rule.up_to_colon => colon,
         _ => 0,
     };
-    Cut {
+    LineCut {
         head,
         colour: rule.colour,
         rest: rule.rest,
@@ -134,14 +134,14 @@ fn cut_by(rule: &Rule, line: &[u8]) -> Cut
 }
 
 /// The line of a register, with its verdict.
-fn cut_of_register(line: &[u8]) -> Cut
+fn cut_of_register(line: &[u8]) -> LineCut
     ensures { result.head ≤ length line.now }
 {
     let colour = match memmem::find(line, b"  fails: ") {
-        Some(_) => Colour::Red,
-        None => Colour::Green,
+        Some(_) => TextColour::Red,
+        None => TextColour::Green,
     };
-    Cut {
+    LineCut {
         head: line.len(),
         colour: Some(colour),
         rest: None,
@@ -149,26 +149,26 @@ fn cut_of_register(line: &[u8]) -> Cut
 }
 
 /// A line of an excerpt. Under a line of a file, which has its number in the gutter, are marks.
-fn cut_at_gutter(line: &[u8], gutter: usize) -> Cut
+fn cut_at_gutter(line: &[u8], gutter: usize) -> LineCut
     requires { gutter ≤ length line.now }
     ensures { result.head ≤ length line.now }
 {
-    Cut {
+    LineCut {
         head: gutter,
-        colour: Some(Colour::Blue),
+        colour: Some(TextColour::Blue),
         rest: marks_colour(&line[..gutter], &line[gutter..]),
     }
 }
 
 /// The colour of what comes after a gutter, if it is a mark.
-fn marks_colour(gutter: &[u8], rest: &[u8]) -> Option<Colour> {
+fn marks_colour(gutter: &[u8], rest: &[u8]) -> Option<TextColour> {
     let blanks = blanks_in(gutter);
     if !gutter[blanks..].starts_with(b"|") {
         return None;
     }
     match rest.get(blanks_in(rest)) {
-        Some(b'^') => Some(Colour::Red),
-        Some(b'-') => Some(Colour::Blue),
+        Some(b'^') => Some(TextColour::Red),
+        Some(b'-') => Some(TextColour::Blue),
         _ => None,
     }
 }

@@ -3,7 +3,7 @@
 ghost use Rattle.std.specs.Prelude.{◌≤◌, ◌-◌, IfOk, IfSome, OnOk, drop, length, take};
 ghost use Rattle.colours.specs.Painted.{Adds, IsInOneLine, IsPainted};
 
-use crate::escapes::{Colour, RESET};
+use crate::escapes::{RESET, TextColour};
 use crate::line::{blanks_in, cut_of};
 use memchr::memchr;
 use std::alloc::{AllocError, Global};
@@ -54,7 +54,11 @@ fn push_line(painted: &mut Vec<u8>, line: &[u8]) -> Result<(), AllocError>
 }
 
 /// Adds a part of a line in a colour, or as it is.
-fn push_part(painted: &mut Vec<u8>, colour: Option<Colour>, bytes: &[u8]) -> Result<(), AllocError>
+fn push_part(
+    painted: &mut Vec<u8>,
+    colour: Option<TextColour>,
+    bytes: &[u8],
+) -> Result<(), AllocError>
     requires line { IsInOneLine bytes.now }
     ensures { OnOk result (Adds bytes.now painted.old.items painted.new.items) }
 {
@@ -73,7 +77,7 @@ fn push_plain(painted: &mut Vec<u8>, bytes: &[u8]) -> Result<(), AllocError>
 }
 
 #[tactic(auto, using(crate::proofs::Adding::in_colour))]
-fn push_coloured(painted: &mut Vec<u8>, colour: Colour, bytes: &[u8]) -> Result<(), AllocError>
+fn push_coloured(painted: &mut Vec<u8>, colour: TextColour, bytes: &[u8]) -> Result<(), AllocError>
     requires line { IsInOneLine bytes.now }
     ensures { OnOk result (Adds bytes.now painted.old.items painted.new.items) }
 {
