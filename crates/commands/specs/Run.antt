@@ -1,5 +1,5 @@
 -- What a run of the program did.
-use Rattle.std.specs.Prelude.{◌≡◌, ℕ, false, List, Option, Some, None, IfSome, is_some}
+use Rattle.std.specs.Prelude.{◌≡◌, ℕ, Bool, true, false, List, [], Option, Some, None, IfSome, is_some}
 use Rattle.std.specs.List.{list_any}
 use Rattle.std.specs.Io.KnownBytes.{Appends}
 use Rattle.clap.specs.Words.{Text}
@@ -8,8 +8,11 @@ use Rattle.tower_file.specs.Contents.{TowerModel}
 use Rattle.tower_file.specs.Tower.{IsTowerOf}
 use Rattle.report.specs.Listing.{tower_lines}
 use Rattle.texts.specs.declared.version.TheConstants.{VERSION}
+use Rattle.colours.specs.Painted.{IsPainted}
+use Rattle.words.specs.declared.colour.ColourWord.{ColourWord}
+use Rattle.words.specs.declared.colour.ColourWord.TheVariants.{Auto, Always, Never}
 use Rattle.words.specs.Completion.{script_for}
-use Rattle.words.specs.Words.{Asked, AskedKeys, Safe, Check, Watch, Show, Lint, Keys, Tower, Explain, Version, Manual, Completion, IsWellFormed, asked}
+use Rattle.words.specs.Words.{Asked, AskedKeys, Safe, Check, Watch, Show, Lint, Keys, Tower, Explain, Version, Manual, Completion, IsWellFormed, asked, colours_asked}
 use Rattle.keys.specs.declared.file.NameClaim.{NameClaim}
 use Rattle.command_parts.specs.Files.{AreHeld}
 use Rattle.command_parts.specs.Status.{status_of}
@@ -55,11 +58,30 @@ IsCarriedOut (Lint lint) files input status old new =
     (traces : List (List ℕ)) → AreHeld files lint.traces traces → IsLooked lint files traces status old new
 IsCarriedOut (Keys keys) files input status old new =
     (traces : List (List ℕ)) → AreHeld files keys.traces traces → IsNaming keys traces status old new
-IsCarriedOut (Explain code) files input status old new = IsExplained code status old new
+IsCarriedOut (Explain code colours) files input status old new = IsExplained code status old new
 IsCarriedOut Version files input status old new = IsPrintedText VERSION.now status old new
 IsCarriedOut Manual files input status old new = IsManual status old new
 IsCarriedOut (Completion shell) files input status old new = IsPrintedText (script_for shell) status old new
 IsCarriedOut (Tower name) files input status old new = IfSome (files name) (λ bytes. IsListed bytes status old new)
+
+-- what was printed is in colours: always or never where the words say so, else where the output shows colours
+abbrev pub is_coloured : Bool → ColourWord → Bool
+is_coloured shows Auto = shows
+is_coloured shows Always = true
+is_coloured shows Never = false
+
+-- the command was carried out over an output of its own, and that was written with colours put in
+pub record IsInColours (command : Asked) (files : Text → Option (List ℕ)) (input : Option (List ℕ)) (status : ℕ) (old new : Option (List ℕ)) : Type 0 where
+  pub text : List ℕ
+  pub carried_out : IsCarriedOut command files input status (Some []) (Some text)
+  pub painted : List ℕ
+  pub paints : IsPainted text painted
+  pub written : Appends old new painted
+
+-- the command was carried out, in colours or not
+abbrev pub IsCarriedOutIn : Bool → Asked → (Text → Option (List ℕ)) → Option (List ℕ) → ℕ → Option (List ℕ) → Option (List ℕ) → Type 0
+IsCarriedOutIn false command files input status old new = IsCarriedOut command files input status old new
+IsCarriedOutIn true command files input status old new = IsInColours command files input status old new
 
 -- the command is a watch
 abbrev pub IsWatch : Asked → Type 0
@@ -75,9 +97,9 @@ WritesWhole command files old new = Unit {0}
 abbrev pub WantInput : List Text → Type 0
 WantInput words = (asked words ≡ Some (Safe None)) × IsWellFormed words
 
--- the words are well formed and ask for a command, and it was carried out
-pub record IsDone (words : List Text) (files : Text → Option (List ℕ)) (input : Option (List ℕ)) (status : ℕ) (old new : Option (List ℕ)) : Type 0 where
+-- the words are well formed and ask for a command, and it was carried out over an output that shows colours or not
+pub record IsDone (words : List Text) (shows : Bool) (files : Text → Option (List ℕ)) (input : Option (List ℕ)) (status : ℕ) (old new : Option (List ℕ)) : Type 0 where
   pub command : Asked
   pub faultless : IsWellFormed words
   pub asks : asked words ≡ Some command
-  pub carried_out : IsCarriedOut command files input status old new
+  pub carried_out : IsCarriedOutIn (is_coloured shows (colours_asked command)) command files input status old new

@@ -2,7 +2,8 @@
 //!
 //! ```text
 //! let files = &mut HostFiles::new(rt);
-//! let status = run(rt, words_of(rt), files, &mut input, &mut out, &mut err);
+//! let shows = shows_colours(rt, &out);
+//! let status = run(rt, words_of(rt), shows, files, &mut input, &mut out, &mut err);
 //! ```
 //!
 //! The program `regaudit` is this call over the machine, and `rows` makes it for each row of data. Begin with
@@ -13,4 +14,4 @@
 mod commands;
 mod print;
 
-pub use commands::{conclude, run, run_safe, run_words, words_of};
+pub use commands::{conclude, run, run_safe, run_words, shows_colours, words_of};

@@ -16,7 +16,7 @@ pub struct RowOutcome {
     pub status: Vec<u8>,
 }
 
-/// Runs a row on an input, with texts that come cut by `cut` and an output that takes `room` bytes.
+/// Runs a row on an input, with texts that come cut by `cut` and an output that takes `room` bytes and is no terminal.
 pub fn carried_out<R: Files + AllocGlobal + Threads + Wait + Sync>(
     rt: &R,
     row: &Row,
@@ -33,6 +33,7 @@ where
     let status = run(
         rt,
         row.handed_over(rt.alloc()),
+        false,
         &mut RowFiles::new(rt, row, cut),
         &mut Pieces::new(input, cut),
         &mut out,

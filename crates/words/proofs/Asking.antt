@@ -9,6 +9,7 @@ use Rattle.intervals.specs.declared.claim.Kind.TheVariants.{Regular, Atomic}
 use Rattle.intervals.specs.declared.claim.Kind.TheVariants as kinds
 use Rattle.intervals.specs.declared.operation.Value.TheVariants.{Nil, Int}
 use Rattle.words.specs.declared.check.ReportForm.TheVariants.{Report, Summary, Json, Edn, GitHub, Junit, Trace}
+use Rattle.words.specs.declared.colour.ColourWord.TheVariants as colours
 use Rattle.words.specs.declared.completion.Shell.TheVariants.{Bash, Zsh, Fish}
 use Rattle.words.specs.declared.lint.LintForm.TheVariants as lint_forms
 use Rattle.words.specs.declared.show.Picture.TheVariants as pictures
@@ -44,7 +45,7 @@ pub no_file : (program : Text) → asked (program ∷ codes "tower" ∷ []) ≡ 
 unfolding clap_on_literals
 no_file program = refl
 
-pub list : (program : Text) → asked (program ∷ codes "explain" ∷ []) ≡ Some (Explain None)
+pub list : (program : Text) → asked (program ∷ codes "explain" ∷ []) ≡ Some (Explain None colours.Auto)
 unfolding clap_on_literals
 list program = refl
 
@@ -243,27 +244,27 @@ unfolding clap_on_literals
 taken_watch = refl
 
 pub plain_show : (program : Text) → asked (program ∷ codes "show" ∷ codes "--tower" ∷ codes "t" ∷ codes "a" ∷ [])
-    ≡ Some (Show (record { tower = OfFile (codes "t"); moments = Index; register = None; picture = pictures.Text; around = 3; all = false; width = None; theme = Auto; demand = no_demand; traces = codes "a" ∷ [] }))
+    ≡ Some (Show (record { tower = OfFile (codes "t"); moments = Index; register = None; picture = pictures.Text; around = 3; all = false; width = None; theme = Auto; colours = colours.Auto; demand = no_demand; traces = codes "a" ∷ [] }))
 unfolding clap_on_literals
 plain_show program = refl
 
 pub whole_show : (program : Text) → asked (program ∷ codes "show" ∷ codes "--tower=t" ∷ codes "--moment" ∷ codes "time" ∷ codes "--register" ∷ codes "x" ∷ codes "--html" ∷ codes "--around" ∷ codes "0" ∷ codes "--all" ∷ codes "--width" ∷ codes "72" ∷ codes "--theme" ∷ codes "dark" ∷ codes "--least" ∷ codes "5" ∷ codes "--least-each" ∷ codes "2" ∷ codes "--doubt" ∷ codes "255" ∷ codes "a" ∷ codes "b" ∷ [])
-    ≡ Some (Show (record { tower = OfFile (codes "t"); moments = Time; register = Some (codes "x"); picture = pictures.Html; around = 0; all = true; width = Some 72; theme = Dark; demand = record { least = 5; least_each = 2; doubt = 255 }; traces = codes "a" ∷ codes "b" ∷ [] }))
+    ≡ Some (Show (record { tower = OfFile (codes "t"); moments = Time; register = Some (codes "x"); picture = pictures.Html; around = 0; all = true; width = Some 72; theme = Dark; colours = colours.Never; demand = record { least = 5; least_each = 2; doubt = 255 }; traces = codes "a" ∷ codes "b" ∷ [] }))
 unfolding clap_on_literals
 whole_show program = refl
 
 pub svg : (program : Text) → asked (program ∷ codes "show" ∷ codes "--tower=t" ∷ codes "--svg" ∷ codes "a" ∷ [])
-    ≡ Some (Show (record { tower = OfFile (codes "t"); moments = Index; register = None; picture = pictures.Svg; around = 3; all = false; width = None; theme = Auto; demand = no_demand; traces = codes "a" ∷ [] }))
+    ≡ Some (Show (record { tower = OfFile (codes "t"); moments = Index; register = None; picture = pictures.Svg; around = 3; all = false; width = None; theme = Auto; colours = colours.Never; demand = no_demand; traces = codes "a" ∷ [] }))
 unfolding clap_on_literals
 svg program = refl
 
 pub ascii : (program : Text) → asked (program ∷ codes "show" ∷ codes "a" ∷ codes "--ascii" ∷ codes "--tower=t" ∷ [])
-    ≡ Some (Show (record { tower = OfFile (codes "t"); moments = Index; register = None; picture = pictures.Ascii; around = 3; all = false; width = None; theme = Auto; demand = no_demand; traces = codes "a" ∷ [] }))
+    ≡ Some (Show (record { tower = OfFile (codes "t"); moments = Index; register = None; picture = pictures.Ascii; around = 3; all = false; width = None; theme = Auto; colours = colours.Auto; demand = no_demand; traces = codes "a" ∷ [] }))
 unfolding clap_on_literals
 ascii program = refl
 
 pub any_names_to_show : (program tower register trace : Text) → asked (program ∷ codes "show" ∷ (codes "--tower=" ++ tower) ∷ (codes "--register=" ++ register) ∷ codes "--" ∷ trace ∷ [])
-    ≡ Some (Show (record { tower = OfFile tower; moments = Index; register = Some register; picture = pictures.Text; around = 3; all = false; width = None; theme = Auto; demand = no_demand; traces = trace ∷ [] }))
+    ≡ Some (Show (record { tower = OfFile tower; moments = Index; register = Some register; picture = pictures.Text; around = 3; all = false; width = None; theme = Auto; colours = colours.Auto; demand = no_demand; traces = trace ∷ [] }))
 unfolding clap_on_literals
 any_names_to_show program tower register trace = refl
 
@@ -277,10 +278,40 @@ pub three_pictures : (program : Text) → asked (program ∷ codes "show" ∷ co
 unfolding clap_on_literals
 three_pictures program = refl
 
-pub each_show : (program : Text) → (asked (program ∷ codes "show" ∷ codes "a" ∷ []) ≡ Some (Show (record { tower = OfTraces Atomic; moments = Index; register = None; picture = pictures.Text; around = 3; all = false; width = None; theme = Auto; demand = no_demand; traces = codes "a" ∷ [] })))
-    × (asked (program ∷ codes "show" ∷ codes "--each=regular" ∷ codes "a" ∷ []) ≡ Some (Show (record { tower = OfTraces Regular; moments = Index; register = None; picture = pictures.Text; around = 3; all = false; width = None; theme = Auto; demand = no_demand; traces = codes "a" ∷ [] })))
+pub each_show : (program : Text) → (asked (program ∷ codes "show" ∷ codes "a" ∷ []) ≡ Some (Show (record { tower = OfTraces Atomic; moments = Index; register = None; picture = pictures.Text; around = 3; all = false; width = None; theme = Auto; colours = colours.Auto; demand = no_demand; traces = codes "a" ∷ [] })))
+    × (asked (program ∷ codes "show" ∷ codes "--each=regular" ∷ codes "a" ∷ []) ≡ Some (Show (record { tower = OfTraces Regular; moments = Index; register = None; picture = pictures.Text; around = 3; all = false; width = None; theme = Auto; colours = colours.Auto; demand = no_demand; traces = codes "a" ∷ [] })))
 unfolding clap_on_literals
 each_show program = (refl, refl)
+
+pub coloured_shows : (program : Text) → (asked (program ∷ codes "show" ∷ codes "--colour=always" ∷ codes "a" ∷ []) ≡ Some (Show (record { tower = OfTraces Atomic; moments = Index; register = None; picture = pictures.Text; around = 3; all = false; width = None; theme = Auto; colours = colours.Always; demand = no_demand; traces = codes "a" ∷ [] })))
+    × (asked (program ∷ codes "show" ∷ codes "--ascii" ∷ codes "--colour" ∷ codes "never" ∷ codes "a" ∷ []) ≡ Some (Show (record { tower = OfTraces Atomic; moments = Index; register = None; picture = pictures.Ascii; around = 3; all = false; width = None; theme = Auto; colours = colours.Never; demand = no_demand; traces = codes "a" ∷ [] })))
+unfolding clap_on_literals
+coloured_shows program = (refl, refl)
+
+pub coloured_findings : (program : Text) → (asked (program ∷ codes "lint" ∷ codes "--colour=always" ∷ codes "a" ∷ []) ≡ Some (Lint (record { tower = OfTraces Atomic; moments = Index; form = lint_forms.Human; most = 3; denied = None; colours = colours.Always; traces = codes "a" ∷ [] })))
+    × (asked (program ∷ codes "lint" ∷ codes "--as=short" ∷ codes "--colour=auto" ∷ codes "a" ∷ []) ≡ Some (Lint (record { tower = OfTraces Atomic; moments = Index; form = lint_forms.Short; most = 3; denied = None; colours = colours.Never; traces = codes "a" ∷ [] })))
+    × (asked (program ∷ codes "lint" ∷ codes "--as=json" ∷ codes "--colour=never" ∷ codes "a" ∷ []) ≡ Some (Lint (record { tower = OfTraces Atomic; moments = Index; form = lint_forms.Json; most = 3; denied = None; colours = colours.Never; traces = codes "a" ∷ [] })))
+unfolding clap_on_literals
+coloured_findings program = (refl, refl, refl)
+
+pub coloured_entries : (program : Text) → (asked (program ∷ codes "explain" ∷ codes "--colour=always" ∷ codes "X7" ∷ []) ≡ Some (Explain (Some (codes "X7")) colours.Always))
+    × (asked (program ∷ codes "explain" ∷ codes "--colour=never" ∷ []) ≡ Some (Explain None colours.Never))
+unfolding clap_on_literals
+coloured_entries program = (refl, refl)
+
+pub no_colours : (program : Text) → (asked (program ∷ codes "show" ∷ codes "--svg" ∷ codes "--colour=always" ∷ codes "a" ∷ []) ≡ None)
+    × (asked (program ∷ codes "show" ∷ codes "--html" ∷ codes "--colour=always" ∷ codes "a" ∷ []) ≡ None)
+    × (asked (program ∷ codes "lint" ∷ codes "--as=short" ∷ codes "--colour=always" ∷ codes "a" ∷ []) ≡ None)
+    × (asked (program ∷ codes "lint" ∷ codes "--as=github" ∷ codes "--colour=always" ∷ codes "a" ∷ []) ≡ None)
+    × (asked (program ∷ codes "lint" ∷ codes "--as=json" ∷ codes "--colour=always" ∷ codes "a" ∷ []) ≡ None)
+unfolding clap_on_literals
+no_colours program = (refl, refl, refl, refl, refl)
+
+pub no_colour_word : (program : Text) → (asked (program ∷ codes "show" ∷ codes "--colour=yes" ∷ codes "a" ∷ []) ≡ None)
+    × (asked (program ∷ codes "lint" ∷ codes "--colour=yes" ∷ codes "a" ∷ []) ≡ None)
+    × (asked (program ∷ codes "explain" ∷ codes "--colour=yes" ∷ []) ≡ None)
+unfolding clap_on_literals
+no_colour_word program = (refl, refl, refl)
 
 pub plain_keys : (program : Text) → asked (program ∷ codes "keys" ∷ codes "a" ∷ codes "b" ∷ []) ≡ Some (Keys (record { kind = Atomic; initial = Known Nil; any_writes = true; traces = codes "a" ∷ codes "b" ∷ [] }))
 unfolding clap_on_literals
@@ -326,17 +357,17 @@ unfolding clap_on_literals
 taken_shows = (refl, refl)
 
 pub tower_alone : (program : Text) → asked (program ∷ codes "lint" ∷ codes "--tower" ∷ codes "t" ∷ [])
-    ≡ Some (Lint (record { tower = OfFile (codes "t"); moments = Index; form = lint_forms.Human; most = 3; denied = None; traces = [] }))
+    ≡ Some (Lint (record { tower = OfFile (codes "t"); moments = Index; form = lint_forms.Human; most = 3; denied = None; colours = colours.Auto; traces = [] }))
 unfolding clap_on_literals
 tower_alone program = refl
 
 pub traces_alone : (program : Text) → asked (program ∷ codes "lint" ∷ codes "a" ∷ codes "b" ∷ [])
-    ≡ Some (Lint (record { tower = OfTraces Atomic; moments = Index; form = lint_forms.Human; most = 3; denied = None; traces = codes "a" ∷ codes "b" ∷ [] }))
+    ≡ Some (Lint (record { tower = OfTraces Atomic; moments = Index; form = lint_forms.Human; most = 3; denied = None; colours = colours.Auto; traces = codes "a" ∷ codes "b" ∷ [] }))
 unfolding clap_on_literals
 traces_alone program = refl
 
 pub whole_lint : (program : Text) → asked (program ∷ codes "lint" ∷ codes "--tower=t" ∷ codes "--moment" ∷ codes "time" ∷ codes "--as" ∷ codes "json" ∷ codes "--max" ∷ codes "0" ∷ codes "--deny" ∷ codes "L1,L3" ∷ codes "a" ∷ [])
-    ≡ Some (Lint (record { tower = OfFile (codes "t"); moments = Time; form = lint_forms.Json; most = 0; denied = Some (codes "L1,L3"); traces = codes "a" ∷ [] }))
+    ≡ Some (Lint (record { tower = OfFile (codes "t"); moments = Time; form = lint_forms.Json; most = 0; denied = Some (codes "L1,L3"); colours = colours.Never; traces = codes "a" ∷ [] }))
 unfolding clap_on_literals
 whole_lint program = refl
 
@@ -366,7 +397,7 @@ abbrev AsksTower : Text → Text → Type 0
 AsksTower program name = asked (program ∷ codes "tower" ∷ name ∷ []) ≡ Some (Tower name)
 
 abbrev AsksCode : Text → Text → Type 0
-AsksCode program name = asked (program ∷ codes "explain" ∷ name ∷ []) ≡ Some (Explain (Some name))
+AsksCode program name = asked (program ∷ codes "explain" ∷ name ∷ []) ≡ Some (Explain (Some name) colours.Auto)
 
 safe_begins : (program : Text) (byte : ℕ) (bytes : Text) → (byte == 45) ≡ false → AsksSafe program (byte ∷ bytes)
 unfolding clap_on_literals

@@ -14,7 +14,7 @@ use Rattle.words.specs.declared.argument.ArgumentEntry.{ArgumentEntry}
 use Rattle.words.specs.declared.argument.Takes.{Takes}
 use Rattle.words.specs.declared.argument.Takes.TheVariants.{Nothing, Text, Number, Place, Places}
 use Rattle.words.specs.declared.cli.CommandEntry.{CommandEntry}
-use Rattle.words.specs.Words.{amiss_rule, any_traces_rule, count_rule, deny_rule, doubt_rule, each_rule, flag_rule, form_rule, initial_rule, kind_rule, moment_rule, only_rule, order_rule, register_rule, shards_rule, shell_rule, theme_rule, tower_rule, traces_rule, width_rule, writers_rule}
+use Rattle.words.specs.Words.{amiss_rule, any_traces_rule, colour_rule, count_rule, deny_rule, doubt_rule, each_rule, flag_rule, form_rule, initial_rule, kind_rule, moment_rule, only_rule, order_rule, register_rule, shards_rule, shell_rule, theme_rule, tower_rule, traces_rule, width_rule, writers_rule}
 
 -- the rule of an argument
 abbrev pub argument_rule : Argument → Rule
@@ -47,6 +47,7 @@ argument_rule arguments.Around = count_rule (codes "around") (codes "3")
 argument_rule arguments.All = flag_rule (codes "all")
 argument_rule arguments.Width = width_rule
 argument_rule arguments.ThemeWord = theme_rule
+argument_rule arguments.Colour = colour_rule
 argument_rule arguments.Most = count_rule (codes "max") (codes "3")
 argument_rule arguments.Denied = deny_rule
 argument_rule arguments.Code = new_rule (codes "CODE")

@@ -19,6 +19,8 @@ use Rattle.words.specs.declared.check.ReportForm.{ReportForm}
 use Rattle.words.specs.declared.check.ReportForm.TheVariants.{Report, Summary, Json, Edn, GitHub, Junit, Trace}
 use Rattle.jepsen_form.specs.declared.item.MomentField.{MomentField}
 use Rattle.jepsen_form.specs.declared.item.MomentField.TheVariants.{Index, Time}
+use Rattle.words.specs.declared.colour.ColourWord.{ColourWord}
+use Rattle.words.specs.declared.colour.ColourWord.TheVariants as colours
 use Rattle.words.specs.declared.demand.Demand.{Demand}
 use Rattle.words.specs.declared.keys.Keys.{Keys as HeldKeys}
 use Rattle.words.specs.declared.lint.Lint.{Lint as HeldLint}
@@ -117,17 +119,21 @@ width_rule = record (new_rule (codes "width")) { long = Some (codes "width"); va
 abbrev pub theme_rule : Rule
 theme_rule = record (new_rule (codes "theme")) { long = Some (codes "theme"); value_names = 1; defaults = codes "auto" ∷ [] }
 
+-- the option `--colour WHEN`; `auto` where it is not given
+abbrev pub colour_rule : Rule
+colour_rule = record (new_rule (codes "colour")) { long = Some (codes "colour"); value_names = 1; defaults = codes "auto" ∷ [] }
+
 -- a command, with `--svg`, `--html` and `--ascii` added
 abbrev pub with_pictures : App → App
 with_pictures options = with_rule (with_rule (with_rule options (flag_rule (codes "svg"))) (flag_rule (codes "html"))) (flag_rule (codes "ascii"))
 
--- a command, with `--around`, `--all`, `--width` and `--theme` added
+-- a command, with `--around`, `--all`, `--width`, `--theme` and `--colour` added
 abbrev pub with_show_options : App → App
 with_show_options options =
-    with_rule (with_rule (with_rule (with_rule options (count_rule (codes "around") (codes "3"))) (flag_rule (codes "all"))) width_rule) theme_rule
+    with_rule (with_rule (with_rule (with_rule (with_rule options (count_rule (codes "around") (codes "3"))) (flag_rule (codes "all"))) width_rule) theme_rule) colour_rule
 
 -- `show [--tower FILE] [--each KIND] [--moment FIELD] [--register NAME] [--svg] [--html] [--ascii] [--around N] [--all] [--width N]
--- [--theme THEME] [--least N] [--least-each N] [--doubt STATUS] TRACE..`
+-- [--theme THEME] [--colour WHEN] [--least N] [--least-each N] [--doubt STATUS] TRACE..`
 abbrev pub show_line : App
 show_line = with_demand (with_show_options (with_pictures (with_rule (with_rule (with_tower (new_app (codes "show"))) moment_rule) register_rule)))
 
@@ -143,11 +149,11 @@ deny_rule = record (new_rule (codes "deny")) { long = Some (codes "deny"); value
 abbrev pub any_traces_rule : Rule
 any_traces_rule = record (new_rule (codes "TRACE")) { range = Some (record { start_inclusive = 1; end_inclusive = usize_max }) }
 
--- a command, with `--max`, `--deny` and any number of `TRACE..` added
+-- a command, with `--max`, `--deny`, `--colour` and any number of `TRACE..` added
 abbrev pub with_lint_options : App → App
-with_lint_options options = with_rule (with_rule (with_rule options (count_rule (codes "max") (codes "3"))) deny_rule) any_traces_rule
+with_lint_options options = with_rule (with_rule (with_rule (with_rule options (count_rule (codes "max") (codes "3"))) deny_rule) colour_rule) any_traces_rule
 
--- the command `lint [--tower FILE] [--each KIND] [--moment FIELD] [--as FORM] [--max N] [--deny CODES] [TRACE..]`
+-- the command `lint [--tower FILE] [--each KIND] [--moment FIELD] [--as FORM] [--max N] [--deny CODES] [--colour WHEN] [TRACE..]`
 abbrev pub lint_line : App
 lint_line = with_lint_options (with_rule (with_rule (with_tower (new_app (codes "lint"))) moment_rule) amiss_rule)
 
@@ -175,9 +181,9 @@ safe_line = with_rule (new_app (codes "safe")) (new_rule (codes "TRACE"))
 abbrev pub tower_line : App
 tower_line = with_rule (new_app (codes "tower")) (record (new_rule (codes "FILE")) { required = true })
 
--- the command `explain [CODE]`
+-- the command `explain [--colour WHEN] [CODE]`
 abbrev pub explain_line : App
-explain_line = with_rule (new_app (codes "explain")) (new_rule (codes "CODE"))
+explain_line = with_rule (with_rule (new_app (codes "explain")) colour_rule) (new_rule (codes "CODE"))
 
 -- the command `version`
 abbrev pub version_line : App
@@ -261,6 +267,7 @@ pub record AskedShow : Type 0 where
   pub all : Bool
   pub width : Option ℕ
   pub theme : ThemeWord
+  pub colours : ColourWord
   pub demand : Demand
   pub traces : List Text
 
@@ -271,6 +278,7 @@ pub record AskedLint : Type 0 where
   pub form : LintForm
   pub most : ℕ
   pub denied : Option Text
+  pub colours : ColourWord
   pub traces : List Text
 
 -- what the words of `keys` ask for
@@ -290,7 +298,7 @@ pub data Asked : Type 0 where
   Lint : (lint : AskedLint) → Asked
   Keys : (keys : AskedKeys) → Asked
   Tower : (file : Text) → Asked
-  Explain : (code : Option Text) → Asked
+  Explain : (code : Option Text) (colours : ColourWord) → Asked
   Version : Asked
   Manual : Asked
   Completion : (shell : Shell) → Asked
@@ -385,6 +393,28 @@ theme_in text =
     if bytes_eq text (codes "auto") then Some Auto
     else (if bytes_eq text (codes "light") then Some Light
     else (if bytes_eq text (codes "dark") then Some Dark else None))
+
+-- whether a picture is drawn in lines of a terminal
+abbrev pub is_in_lines : Picture → Bool
+is_in_lines pictures.Text = true
+is_in_lines pictures.Ascii = true
+is_in_lines pictures.Svg = false
+is_in_lines pictures.Html = false
+
+-- whether findings of this form are lines for people
+abbrev pub is_for_people : LintForm → Bool
+is_for_people lint_forms.Human = true
+is_for_people lint_forms.Short = false
+is_for_people lint_forms.GitHub = false
+is_for_people lint_forms.Json = false
+
+-- the colours that a text asks for, of lines for people or of something else: `never`, `auto` or `always`; something else
+-- has none by `auto`, and `always` does not go with it
+abbrev pub colours_in : Bool → Text → Option ColourWord
+colours_in for_people text =
+    if bytes_eq text (codes "never") then Some colours.Never
+    else (if bytes_eq text (codes "auto") then Some (if for_people then colours.Auto else colours.Never)
+    else (if bytes_eq text (codes "always") && for_people then Some colours.Always else None))
 
 -- the form of findings that a text names: `human`, `short`, `github` or `json`
 abbrev pub lint_form_in : Text → Option LintForm
@@ -484,17 +514,18 @@ abbrev pub picture_by : List Row → Option Picture
 picture_by rows = picture_in (is_set (codes "svg") rows) (is_set (codes "html") rows) (is_set (codes "ascii") rows)
 
 -- what `show` asks for by these values and the other arguments; none where they name no trace
-abbrev pub show_of : AskedTower → MomentField → Picture → ℕ → ThemeWord → Demand → List Row → Option AskedShow
-show_of tower moments picture around theme demand rows =
+abbrev pub show_of : AskedTower → MomentField → Picture → ℕ → ThemeWord → ColourWord → Demand → List Row → Option AskedShow
+show_of tower moments picture around theme colours demand rows =
     if length (traces_in rows) == 0 then None
-    else Some (record { tower = tower; moments = moments; register = first_of (codes "register") rows; picture = picture; around = around; all = is_set (codes "all") rows; width = said_in count_in (codes "width") rows; theme = theme; demand = demand; traces = traces_in rows })
+    else Some (record { tower = tower; moments = moments; register = first_of (codes "register") rows; picture = picture; around = around; all = is_set (codes "all") rows; width = said_in count_in (codes "width") rows; theme = theme; colours = colours; demand = demand; traces = traces_in rows })
 
 -- what `show` asks for by these arguments, or none
 abbrev pub show_by : List Row → Option AskedShow
 show_by rows =
     option_and_then (λ tower. option_and_then (λ moments. option_and_then (λ picture. option_and_then (λ around.
-    option_and_then (λ theme. option_and_then (λ demand. show_of tower moments picture around theme demand rows)
+    option_and_then (λ theme. option_and_then (λ colours. option_and_then (λ demand. show_of tower moments picture around theme colours demand rows)
     (demand_by rows))
+    (said_in (colours_in (is_in_lines picture)) (codes "colour") rows))
     (said_in theme_in (codes "theme") rows))
     (said_in count_in (codes "around") rows))
     (picture_by rows))
@@ -507,15 +538,17 @@ is_nothing (OfFile file) traces = false
 is_nothing (OfTraces kind) traces = length traces == 0
 
 -- what `lint` asks for by these values and the other arguments; none where they name neither a tower file nor a trace
-abbrev pub lint_of : AskedTower → MomentField → LintForm → ℕ → List Row → Option AskedLint
-lint_of tower moments form most rows =
+abbrev pub lint_of : AskedTower → MomentField → LintForm → ℕ → ColourWord → List Row → Option AskedLint
+lint_of tower moments form most colours rows =
     if is_nothing tower (traces_in rows) then None
-    else Some (record { tower = tower; moments = moments; form = form; most = most; denied = first_of (codes "deny") rows; traces = traces_in rows })
+    else Some (record { tower = tower; moments = moments; form = form; most = most; denied = first_of (codes "deny") rows; colours = colours; traces = traces_in rows })
 
 -- what `lint` asks for by these arguments, or none
 abbrev pub lint_by : List Row → Option AskedLint
 lint_by rows =
-    option_and_then (λ tower. option_and_then (λ moments. option_and_then (λ form. option_and_then (λ most. lint_of tower moments form most rows)
+    option_and_then (λ tower. option_and_then (λ moments. option_and_then (λ form. option_and_then (λ most.
+    option_and_then (λ colours. lint_of tower moments form most colours rows)
+    (said_in (colours_in (is_for_people form)) (codes "colour") rows))
     (said_in count_in (codes "max") rows))
     (said_in lint_form_in (codes "as") rows))
     (said_in moments_in (codes "moment") rows))
@@ -550,7 +583,7 @@ command_by name rows =
     else (if bytes_eq name (codes "keys") then option_map Keys (keys_by rows)
     else (if bytes_eq name (codes "safe") then Some (Safe (first_of (codes "TRACE") rows))
     else (if bytes_eq name (codes "tower") then option_map Tower (first_of (codes "FILE") rows)
-    else (if bytes_eq name (codes "explain") then Some (Explain (first_of (codes "CODE") rows))
+    else (if bytes_eq name (codes "explain") then option_map (Explain (first_of (codes "CODE") rows)) (said_in (colours_in true) (codes "colour") rows)
     else (if bytes_eq name (codes "version") then Some Version
     else (if bytes_eq name (codes "manual") then Some Manual
     else option_map Completion (said_in shell_named (codes "SHELL") rows))))))))))
@@ -619,6 +652,7 @@ asked_show show = record {
   all = show.all;
   width = show.width;
   theme = show.theme;
+  colours = show.colours;
   demand = show.demand;
   traces = map (λ name. name.now) show.traces.items;
 }
@@ -631,6 +665,7 @@ asked_lint lint = record {
   form = lint.form;
   most = lint.most;
   denied = option_map (λ codes. codes.now) lint.denied;
+  colours = lint.colours;
   traces = map (λ name. name.now) lint.traces.items;
 }
 
@@ -652,10 +687,17 @@ asked_of (commands.Show show) = Show (asked_show show)
 asked_of (commands.Lint lint) = Lint (asked_lint lint)
 asked_of (commands.Keys keys) = Keys (asked_keys keys)
 asked_of (commands.Tower file) = Tower file.now
-asked_of (commands.Explain code) = Explain (option_map (λ code. code.now) code)
+asked_of (commands.Explain code colours) = Explain (option_map (λ code. code.now) code) colours
 asked_of commands.Version = Version
 asked_of commands.Manual = Manual
 asked_of (commands.Completion shell) = Completion shell
+
+-- the colours that a command asks for: those of `show`, `lint` and `explain`; no other has any
+abbrev pub colours_asked : Asked → ColourWord
+colours_asked (Show show) = show.colours
+colours_asked (Lint lint) = lint.colours
+colours_asked (Explain code colours) = colours
+colours_asked _ = colours.Never
 
 -- a check, or a watch, has from 1 to 64 shards
 abbrev pub HasShards : Command → Type 0

@@ -47,6 +47,7 @@ pub(crate) enum Argument {
     All,
     Width,
     ThemeWord,
+    Colour,
     /// `--max N`.
     Most,
     /// `--deny CODES`.
@@ -119,6 +120,7 @@ impl Argument {
             Argument::All => &ALL,
             Argument::Width => &WIDTH,
             Argument::ThemeWord => &THEME,
+            Argument::Colour => &COLOUR,
             Argument::Most => &MOST,
             Argument::Denied => &DENIED,
             Argument::Code => &CODE,
@@ -377,6 +379,15 @@ static THEME: ArgumentEntry = ArgumentEntry {
     defaults: &["auto"],
     words: &["auto", "light", "dark"],
     help: "The colours of a picture: auto, light or dark",
+    ..OPTION
+};
+
+static COLOUR: ArgumentEntry = ArgumentEntry {
+    name: "colour",
+    value_names: &["WHEN"],
+    defaults: &["auto"],
+    words: &["auto", "always", "never"],
+    help: "When lines for people have colours: auto, on a terminal where NO_COLOR is not set, always or never",
     ..OPTION
 };
 

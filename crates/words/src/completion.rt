@@ -95,9 +95,16 @@ _regaudit() {
             check:--only) words=failing ;;
             watch:--as) words='text json' ;;
             show:--theme) words='auto light dark' ;;
+            show:--colour | lint:--colour | explain:--colour) words='auto always never' ;;
             lint:--as) words='human short github json' ;;
             lint:--deny) words='L1 L2 L3 L4 L5 L6 L7 L8' ;;
-            explain:explain) words=$("$1" explain 2> /dev/null | cut -d ' ' -f 1) ;;
+            explain:explain)
+                if [[ $begun == -* ]]; then
+                    words='--colour --help'
+                else
+                    words=$("$1" explain 2> /dev/null | cut -d ' ' -f 1)
+                fi
+                ;;
             completion:completion) words='bash zsh fish' ;;
             check:*)
                 if [[ $begun == -* ]]; then
@@ -111,12 +118,12 @@ _regaudit() {
                 ;;
             show:*)
                 if [[ $begun == -* ]]; then
-                    words='--tower --each --moment --register --svg --html --ascii --around --all --width --theme --least --least-each --doubt --help'
+                    words='--tower --each --moment --register --svg --html --ascii --around --all --width --theme --colour --least --least-each --doubt --help'
                 fi
                 ;;
             lint:*)
                 if [[ $begun == -* ]]; then
-                    words='--tower --each --moment --as --max --deny --help'
+                    words='--tower --each --moment --as --max --deny --colour --help'
                 fi
                 ;;
             keys:*)
@@ -228,6 +235,7 @@ _regaudit() {
                         '--all[shows all operations]' \
                         '--width=[how wide lines or rows may be]:number: ' \
                         '--theme=[the colours of a picture]:theme:(auto light dark)' \
+                        '--colour=[when lines for people have colours]:when:(auto always never)' \
                         '--least=[status 4 where fewer operations stand]:number: ' \
                         '--least-each=[status 4 where fewer stand in a register]:number: ' \
                         '--doubt=[the status where each failure rests on what was left out]:status: ' \
@@ -242,6 +250,7 @@ _regaudit() {
                         '--as=[how it is printed]:form:(human short github json)' \
                         '--max=[how many of each code are shown]:number: ' \
                         '--deny=[codes of notes that count as warnings]:codes:(L1 L2 L3 L4 L5 L6 L7 L8)' \
+                        '--colour=[when lines for people have colours]:when:(auto always never)' \
                         '(- *)'{-h,--help}'[prints help]' \
                         '*:trace:_files'
                     ;;
@@ -255,7 +264,12 @@ _regaudit() {
                     ;;
                 safe) _arguments '(- *)'{-h,--help}'[prints help]' '1:trace:_files' ;;
                 tower) _arguments '(- *)'{-h,--help}'[prints help]' '1:tower file:_files' ;;
-                explain) _arguments '(- *)'{-h,--help}'[prints help]' '1:code:_regaudit_codes' ;;
+                explain)
+                    _arguments \
+                        '--colour=[when lines for people have colours]:when:(auto always never)' \
+                        '(- *)'{-h,--help}'[prints help]' \
+                        '1:code:_regaudit_codes'
+                    ;;
                 completion) _arguments '(- *)'{-h,--help}'[prints help]' '1:shell:(bash zsh fish)' ;;
                 *) _arguments '(- *)'{-h,--help}'[prints help]' ;;
             esac
@@ -340,6 +354,7 @@ complete -c regaudit -n '__regaudit_is show' -l ascii -d 'lines of ASCII alone'
 complete -c regaudit -n '__regaudit_is show' -l around -x -d 'how many are shown before and after each that tells why'
 complete -c regaudit -n '__regaudit_is show' -l all -d 'shows all operations'
 complete -c regaudit -n '__regaudit_is show' -l width -x -d 'how wide lines or rows may be'
+complete -c regaudit -n '__regaudit_is show lint explain' -l colour -x -a 'auto always never' -d 'when lines for people have colours'
 complete -c regaudit -n '__regaudit_is show' -l theme -x -a 'auto light dark' -d 'the colours of a picture'
 complete -c regaudit -n '__regaudit_is lint' -l tower -rF -d 'the tower file'
 complete -c regaudit -n '__regaudit_is lint' -l moment -x -a 'index time' -d 'the field that moments stand under'

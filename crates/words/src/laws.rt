@@ -8,6 +8,7 @@ ghost use Rattle.intervals.specs.declared.claim.Kind.TheVariants.{Regular, Atomi
 ghost use Rattle.intervals.specs.declared.claim.Kind.TheVariants as kinds;
 ghost use Rattle.intervals.specs.declared.operation.Value.TheVariants.{Nil, Int};
 ghost use Rattle.words.specs.declared.check.ReportForm.TheVariants.{Report, Summary, Json, Edn, GitHub, Junit, Trace};
+ghost use Rattle.words.specs.declared.colour.ColourWord.TheVariants as colours;
 ghost use Rattle.words.specs.declared.completion.Shell.TheVariants.{Bash, Zsh, Fish};
 ghost use Rattle.words.specs.declared.lint.LintForm.TheVariants as lint_forms;
 ghost use Rattle.words.specs.declared.show.Picture.TheVariants as pictures;
@@ -23,8 +24,8 @@ pub fn words_in_turn()
     ensures tower { (program name : Text) → is_no_option name ≡ true → asked (program ∷ codes "tower" ∷ name ∷ []) ≡ Some (Tower name) }
     ensures any_trace { (program name : Text) → asked (program ∷ codes "safe" ∷ codes "--" ∷ name ∷ []) ≡ Some (Safe (Some name)) }
     ensures any_tower { (program name : Text) → asked (program ∷ codes "tower" ∷ codes "--" ∷ name ∷ []) ≡ Some (Tower name) }
-    ensures list { (program : Text) → asked (program ∷ codes "explain" ∷ []) ≡ Some (Explain None) }
-    ensures code { (program name : Text) → is_no_option name ≡ true → asked (program ∷ codes "explain" ∷ name ∷ []) ≡ Some (Explain (Some name)) }
+    ensures list { (program : Text) → asked (program ∷ codes "explain" ∷ []) ≡ Some (Explain None colours.Auto) }
+    ensures code { (program name : Text) → is_no_option name ≡ true → asked (program ∷ codes "explain" ∷ name ∷ []) ≡ Some (Explain (Some name) colours.Auto) }
     ensures version { (program : Text) → asked (program ∷ codes "version" ∷ []) ≡ Some Version }
     ensures version_option { (program : Text) → asked (program ∷ codes "--version" ∷ []) ≡ Some Version }
     ensures version_letter { (program : Text) → asked (program ∷ codes "-V" ∷ []) ≡ Some Version }
@@ -92,21 +93,21 @@ pub fn watches_in_turn()
 /// is named.
 pub fn shows_in_turn()
     ensures plain { (program : Text) → asked (program ∷ codes "show" ∷ codes "--tower" ∷ codes "t" ∷ codes "a" ∷ [])
-        ≡ Some (Show (record { tower = OfFile (codes "t"); moments = Index; register = None; picture = pictures.Text; around = 3; all = false; width = None; theme = Auto; demand = no_demand; traces = codes "a" ∷ [] })) }
+        ≡ Some (Show (record { tower = OfFile (codes "t"); moments = Index; register = None; picture = pictures.Text; around = 3; all = false; width = None; theme = Auto; colours = colours.Auto; demand = no_demand; traces = codes "a" ∷ [] })) }
     ensures whole { (program : Text) → asked (program ∷ codes "show" ∷ codes "--tower=t" ∷ codes "--moment" ∷ codes "time" ∷ codes "--register" ∷ codes "x" ∷ codes "--html" ∷ codes "--around" ∷ codes "0" ∷ codes "--all" ∷ codes "--width" ∷ codes "72" ∷ codes "--theme" ∷ codes "dark" ∷ codes "--least" ∷ codes "5" ∷ codes "--least-each" ∷ codes "2" ∷ codes "--doubt" ∷ codes "255" ∷ codes "a" ∷ codes "b" ∷ [])
-        ≡ Some (Show (record { tower = OfFile (codes "t"); moments = Time; register = Some (codes "x"); picture = pictures.Html; around = 0; all = true; width = Some 72; theme = Dark; demand = record { least = 5; least_each = 2; doubt = 255 }; traces = codes "a" ∷ codes "b" ∷ [] })) }
+        ≡ Some (Show (record { tower = OfFile (codes "t"); moments = Time; register = Some (codes "x"); picture = pictures.Html; around = 0; all = true; width = Some 72; theme = Dark; colours = colours.Never; demand = record { least = 5; least_each = 2; doubt = 255 }; traces = codes "a" ∷ codes "b" ∷ [] })) }
     ensures svg { (program : Text) → asked (program ∷ codes "show" ∷ codes "--tower=t" ∷ codes "--svg" ∷ codes "a" ∷ [])
-        ≡ Some (Show (record { tower = OfFile (codes "t"); moments = Index; register = None; picture = pictures.Svg; around = 3; all = false; width = None; theme = Auto; demand = no_demand; traces = codes "a" ∷ [] })) }
+        ≡ Some (Show (record { tower = OfFile (codes "t"); moments = Index; register = None; picture = pictures.Svg; around = 3; all = false; width = None; theme = Auto; colours = colours.Never; demand = no_demand; traces = codes "a" ∷ [] })) }
     ensures ascii { (program : Text) → asked (program ∷ codes "show" ∷ codes "a" ∷ codes "--ascii" ∷ codes "--tower=t" ∷ [])
-        ≡ Some (Show (record { tower = OfFile (codes "t"); moments = Index; register = None; picture = pictures.Ascii; around = 3; all = false; width = None; theme = Auto; demand = no_demand; traces = codes "a" ∷ [] })) }
+        ≡ Some (Show (record { tower = OfFile (codes "t"); moments = Index; register = None; picture = pictures.Ascii; around = 3; all = false; width = None; theme = Auto; colours = colours.Auto; demand = no_demand; traces = codes "a" ∷ [] })) }
     ensures any_names { (program tower register trace : Text) → asked (program ∷ codes "show" ∷ (codes "--tower=" ++ tower) ∷ (codes "--register=" ++ register) ∷ codes "--" ∷ trace ∷ [])
-        ≡ Some (Show (record { tower = OfFile tower; moments = Index; register = Some register; picture = pictures.Text; around = 3; all = false; width = None; theme = Auto; demand = no_demand; traces = trace ∷ [] })) }
+        ≡ Some (Show (record { tower = OfFile tower; moments = Index; register = Some register; picture = pictures.Text; around = 3; all = false; width = None; theme = Auto; colours = colours.Auto; demand = no_demand; traces = trace ∷ [] })) }
     ensures two_pictures { (program : Text) → (asked (program ∷ codes "show" ∷ codes "--tower=t" ∷ codes "--svg" ∷ codes "--html" ∷ codes "a" ∷ []) ≡ None)
         × (asked (program ∷ codes "show" ∷ codes "--tower=t" ∷ codes "--svg" ∷ codes "--ascii" ∷ codes "a" ∷ []) ≡ None)
         × (asked (program ∷ codes "show" ∷ codes "--tower=t" ∷ codes "--ascii" ∷ codes "--html" ∷ codes "a" ∷ []) ≡ None) }
     ensures three_pictures { (program : Text) → asked (program ∷ codes "show" ∷ codes "--tower=t" ∷ codes "--svg" ∷ codes "--html" ∷ codes "--ascii" ∷ codes "a" ∷ []) ≡ None }
-    ensures each { (program : Text) → (asked (program ∷ codes "show" ∷ codes "a" ∷ []) ≡ Some (Show (record { tower = OfTraces Atomic; moments = Index; register = None; picture = pictures.Text; around = 3; all = false; width = None; theme = Auto; demand = no_demand; traces = codes "a" ∷ [] })))
-        × (asked (program ∷ codes "show" ∷ codes "--each=regular" ∷ codes "a" ∷ []) ≡ Some (Show (record { tower = OfTraces Regular; moments = Index; register = None; picture = pictures.Text; around = 3; all = false; width = None; theme = Auto; demand = no_demand; traces = codes "a" ∷ [] }))) }
+    ensures each { (program : Text) → (asked (program ∷ codes "show" ∷ codes "a" ∷ []) ≡ Some (Show (record { tower = OfTraces Atomic; moments = Index; register = None; picture = pictures.Text; around = 3; all = false; width = None; theme = Auto; colours = colours.Auto; demand = no_demand; traces = codes "a" ∷ [] })))
+        × (asked (program ∷ codes "show" ∷ codes "--each=regular" ∷ codes "a" ∷ []) ≡ Some (Show (record { tower = OfTraces Regular; moments = Index; register = None; picture = pictures.Text; around = 3; all = false; width = None; theme = Auto; colours = colours.Auto; demand = no_demand; traces = codes "a" ∷ [] }))) }
     ensures no_trace { (program : Text) → asked (program ∷ codes "show" ∷ codes "--tower" ∷ codes "t" ∷ []) ≡ None }
     ensures no_theme { (program : Text) → asked (program ∷ codes "show" ∷ codes "--tower=t" ∷ codes "--theme" ∷ codes "blue" ∷ codes "a" ∷ []) ≡ None }
     ensures refused_widths { (takes command_line (codes "regaudit" ∷ codes "show" ∷ codes "--tower=t" ∷ codes "--width=19" ∷ codes "a" ∷ []) ≡ false)
@@ -120,13 +121,32 @@ pub fn shows_in_turn()
 /// where nothing else is said.
 pub fn looks_in_turn()
     ensures tower { (program : Text) → asked (program ∷ codes "lint" ∷ codes "--tower" ∷ codes "t" ∷ [])
-        ≡ Some (Lint (record { tower = OfFile (codes "t"); moments = Index; form = lint_forms.Human; most = 3; denied = None; traces = [] })) }
+        ≡ Some (Lint (record { tower = OfFile (codes "t"); moments = Index; form = lint_forms.Human; most = 3; denied = None; colours = colours.Auto; traces = [] })) }
     ensures traces { (program : Text) → asked (program ∷ codes "lint" ∷ codes "a" ∷ codes "b" ∷ [])
-        ≡ Some (Lint (record { tower = OfTraces Atomic; moments = Index; form = lint_forms.Human; most = 3; denied = None; traces = codes "a" ∷ codes "b" ∷ [] })) }
+        ≡ Some (Lint (record { tower = OfTraces Atomic; moments = Index; form = lint_forms.Human; most = 3; denied = None; colours = colours.Auto; traces = codes "a" ∷ codes "b" ∷ [] })) }
     ensures whole { (program : Text) → asked (program ∷ codes "lint" ∷ codes "--tower=t" ∷ codes "--moment" ∷ codes "time" ∷ codes "--as" ∷ codes "json" ∷ codes "--max" ∷ codes "0" ∷ codes "--deny" ∷ codes "L1,L3" ∷ codes "a" ∷ [])
-        ≡ Some (Lint (record { tower = OfFile (codes "t"); moments = Time; form = lint_forms.Json; most = 0; denied = Some (codes "L1,L3"); traces = codes "a" ∷ [] })) }
+        ≡ Some (Lint (record { tower = OfFile (codes "t"); moments = Time; form = lint_forms.Json; most = 0; denied = Some (codes "L1,L3"); colours = colours.Never; traces = codes "a" ∷ [] })) }
     ensures nothing { (program : Text) → asked (program ∷ codes "lint" ∷ []) ≡ None }
     ensures no_form { (program : Text) → asked (program ∷ codes "lint" ∷ codes "--as" ∷ codes "text" ∷ codes "a" ∷ []) ≡ None }
+{}
+
+/// Which colours `show`, `lint` and `explain` ask for: what is no lines for people has none, and does not go with `always`.
+pub fn colours_in_turn()
+    ensures shown { (program : Text) → (asked (program ∷ codes "show" ∷ codes "--colour=always" ∷ codes "a" ∷ []) ≡ Some (Show (record { tower = OfTraces Atomic; moments = Index; register = None; picture = pictures.Text; around = 3; all = false; width = None; theme = Auto; colours = colours.Always; demand = no_demand; traces = codes "a" ∷ [] })))
+        × (asked (program ∷ codes "show" ∷ codes "--ascii" ∷ codes "--colour" ∷ codes "never" ∷ codes "a" ∷ []) ≡ Some (Show (record { tower = OfTraces Atomic; moments = Index; register = None; picture = pictures.Ascii; around = 3; all = false; width = None; theme = Auto; colours = colours.Never; demand = no_demand; traces = codes "a" ∷ [] }))) }
+    ensures found { (program : Text) → (asked (program ∷ codes "lint" ∷ codes "--colour=always" ∷ codes "a" ∷ []) ≡ Some (Lint (record { tower = OfTraces Atomic; moments = Index; form = lint_forms.Human; most = 3; denied = None; colours = colours.Always; traces = codes "a" ∷ [] })))
+        × (asked (program ∷ codes "lint" ∷ codes "--as=short" ∷ codes "--colour=auto" ∷ codes "a" ∷ []) ≡ Some (Lint (record { tower = OfTraces Atomic; moments = Index; form = lint_forms.Short; most = 3; denied = None; colours = colours.Never; traces = codes "a" ∷ [] })))
+        × (asked (program ∷ codes "lint" ∷ codes "--as=json" ∷ codes "--colour=never" ∷ codes "a" ∷ []) ≡ Some (Lint (record { tower = OfTraces Atomic; moments = Index; form = lint_forms.Json; most = 3; denied = None; colours = colours.Never; traces = codes "a" ∷ [] }))) }
+    ensures explained { (program : Text) → (asked (program ∷ codes "explain" ∷ codes "--colour=always" ∷ codes "X7" ∷ []) ≡ Some (Explain (Some (codes "X7")) colours.Always))
+        × (asked (program ∷ codes "explain" ∷ codes "--colour=never" ∷ []) ≡ Some (Explain None colours.Never)) }
+    ensures not_for_people { (program : Text) → (asked (program ∷ codes "show" ∷ codes "--svg" ∷ codes "--colour=always" ∷ codes "a" ∷ []) ≡ None)
+        × (asked (program ∷ codes "show" ∷ codes "--html" ∷ codes "--colour=always" ∷ codes "a" ∷ []) ≡ None)
+        × (asked (program ∷ codes "lint" ∷ codes "--as=short" ∷ codes "--colour=always" ∷ codes "a" ∷ []) ≡ None)
+        × (asked (program ∷ codes "lint" ∷ codes "--as=github" ∷ codes "--colour=always" ∷ codes "a" ∷ []) ≡ None)
+        × (asked (program ∷ codes "lint" ∷ codes "--as=json" ∷ codes "--colour=always" ∷ codes "a" ∷ []) ≡ None) }
+    ensures no_word { (program : Text) → (asked (program ∷ codes "show" ∷ codes "--colour=yes" ∷ codes "a" ∷ []) ≡ None)
+        × (asked (program ∷ codes "lint" ∷ codes "--colour=yes" ∷ codes "a" ∷ []) ≡ None)
+        × (asked (program ∷ codes "explain" ∷ codes "--colour=yes" ∷ []) ≡ None) }
 {}
 
 /// What `keys` asks for: atomic registers that hold nil at first and that any process may write, where nothing else is

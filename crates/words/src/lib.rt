@@ -6,13 +6,14 @@
 //! regaudit watch [--tower FILE] [--each KIND] [--moment index|time] [--shards N] [--as text|json] [--until-fail]
 //!     [--settle N] [--least N] [--least-each N] [--doubt STATUS] TRACE..
 //! regaudit show [--tower FILE] [--each KIND] [--moment index|time] [--register NAME] [--svg|--html|--ascii]
-//!     [--around N] [--all] [--width N] [--theme auto|light|dark] [--least N] [--least-each N] [--doubt STATUS] TRACE..
+//!     [--around N] [--all] [--width N] [--theme auto|light|dark] [--colour auto|always|never] [--least N]
+//!     [--least-each N] [--doubt STATUS] TRACE..
 //! regaudit lint [--tower FILE] [--each KIND] [--moment index|time] [--as human|short|github|json] [--max N]
-//!     [--deny CODES] [TRACE..]
+//!     [--deny CODES] [--colour auto|always|never] [TRACE..]
 //! regaudit keys [--kind KIND] [--initial VALUE] [--writers any|first] TRACE..
 //! regaudit safe [TRACE]
 //! regaudit tower FILE
-//! regaudit explain [CODE]
+//! regaudit explain [--colour auto|always|never] [CODE]
 //! regaudit version
 //! regaudit manual
 //! regaudit completion bash|zsh|fish
@@ -41,6 +42,7 @@
 mod argument;
 mod check;
 mod cli;
+mod colour;
 mod completion;
 mod demand;
 mod keys;
@@ -53,6 +55,7 @@ mod watch;
 mod words;
 
 pub use check::{Check, ReportForm};
+pub use colour::ColourWord;
 pub use completion::Shell;
 pub use demand::Demand;
 pub use keys::Keys;

@@ -3,9 +3,10 @@
 ghost use Rattle.std.specs.Prelude.{◌≡◌, IfOk, codes, map};
 ghost use Rattle.std.specs.Option.{option_map};
 ghost use Rattle.clap.specs.Words.{found_of, rows_of};
-ghost use Rattle.words.specs.Words.{asked_lint, asked_tower, is_nothing, lint_by, lint_form_in, said_in};
+ghost use Rattle.words.specs.Words.{asked_lint, asked_tower, is_for_people, is_nothing, lint_by, lint_form_in, said_in};
 
 use crate::check::{count_of, moments_of, traces_of};
+use crate::colour::{ColourWord, colours_of};
 use crate::tower::{TowerWord, tower_of};
 use clap::ArgMatches;
 use jepsen_form::MomentField;
@@ -34,6 +35,7 @@ pub struct Lint<'a> {
     pub most: u64,
     /// Codes of notes, with commas between them, that are to count as warnings.
     pub denied: Option<&'a str>,
+    pub colours: ColourWord,
     pub traces: Vec<&'a str>,
 }
 
@@ -56,6 +58,9 @@ pub(crate) fn lint_of<'a>(
     let Some(most) = count_of(found, "max") else {
         return Ok(None);
     };
+    let Some(colours) = colours_of(found, is_for_people(form)) else {
+        return Ok(None);
+    };
     let traces = traces_of(alloc, found)?;
     if is_nothing(&tower, &traces) {
         return Ok(None);
@@ -66,6 +71,7 @@ pub(crate) fn lint_of<'a>(
         form,
         most,
         denied: found.get_str("deny"),
+        colours,
         traces,
     }))
 }
@@ -80,7 +86,17 @@ fn is_nothing(tower: &TowerWord, traces: &[&str]) -> bool
     }
 }
 
-fn lint_form_of(found: &ArgMatches<'_>) -> Option<LintForm>
+/// Whether findings are printed as lines for people, which alone may have colours.
+pub(crate) fn is_for_people(form: LintForm) -> bool
+    ensures { result ≡ is_for_people form }
+{
+    match form {
+        LintForm::Human => true,
+        LintForm::Short | LintForm::GitHub | LintForm::Json => false,
+    }
+}
+
+pub(crate) fn lint_form_of(found: &ArgMatches<'_>) -> Option<LintForm>
     ensures { result ≡ said_in lint_form_in (codes "as") (rows_of (found_of found.now)) }
 {
     lint_form_in(found.get_str("as")?)

@@ -3,9 +3,10 @@
 ghost use Rattle.std.specs.Prelude.{◌≡◌, ◌<◌, IfOk, IfSome, codes, length};
 ghost use Rattle.std.specs.Option.{option_map};
 ghost use Rattle.clap.specs.Words.{found_of, rows_of};
-ghost use Rattle.words.specs.Words.{asked_show, is_set, picture_by, picture_in, said_in, show_by, theme_in};
+ghost use Rattle.words.specs.Words.{asked_show, is_in_lines, is_set, picture_by, picture_in, said_in, show_by, theme_in};
 
 use crate::check::{count_of, moments_of, traces_of};
+use crate::colour::{ColourWord, colours_of};
 use crate::demand::{Demand, demand_of};
 use crate::tower::{TowerWord, tower_of};
 use clap::ArgMatches;
@@ -25,7 +26,7 @@ pub enum Picture {
     Html,
 }
 
-/// The colours of a picture.
+/// The colours of a picture that is no lines of a terminal.
 #[derive(Clone, Copy)]
 pub enum ThemeWord {
     /// Light or dark, as the reader's machine asks for.
@@ -49,6 +50,7 @@ pub struct Show<'a> {
     /// How wide lines or rows may be, in characters or units; where none is given, 100 characters or 1000 units.
     pub width: Option<u64>,
     pub theme: ThemeWord,
+    pub colours: ColourWord,
     pub demand: Demand,
     /// One or more.
     pub traces: Vec<&'a str>,
@@ -77,6 +79,9 @@ pub(crate) fn show_of<'a>(
     let Some(theme) = theme_of(found) else {
         return Ok(None);
     };
+    let Some(colours) = colours_of(found, is_in_lines(picture)) else {
+        return Ok(None);
+    };
     let Some(demand) = demand_of(found) else {
         return Ok(None);
     };
@@ -93,9 +98,20 @@ pub(crate) fn show_of<'a>(
         all: is_set(found, "all"),
         width: count_of(found, "width"),
         theme,
+        colours,
         demand,
         traces,
     }))
+}
+
+/// Whether a picture is drawn in lines of a terminal, which alone may have colours.
+fn is_in_lines(picture: Picture) -> bool
+    ensures { result ≡ is_in_lines picture }
+{
+    match picture {
+        Picture::Text | Picture::Ascii => true,
+        Picture::Svg | Picture::Html => false,
+    }
 }
 
 fn picture_of(found: &ArgMatches<'_>) -> Option<Picture>

@@ -8,13 +8,14 @@ ghost use Rattle.clap.specs.Values.{kind_of};
 ghost use Rattle.clap.specs.Faults.{fault_of};
 ghost use Rattle.clap.specs.declared.error.kind.ErrorKind.TheVariants.{OutOfMemory};
 ghost use Rattle.words.specs.Completion.{shell_named};
-ghost use Rattle.words.specs.Words.{Check as ACheck, HasShards, HasTraces, IsWellFormed, Keys as AKeys, Lint as ALint, Show as AShow, Watch as AWatch, ask_version, asked, asked_by, asked_of, check_by, command_by, command_line, is_version_word, keys_by, lint_by, said_in, show_by, watch_by};
+ghost use Rattle.words.specs.Words.{Check as ACheck, HasShards, HasTraces, IsWellFormed, Keys as AKeys, Lint as ALint, Show as AShow, Watch as AWatch, ask_version, asked, asked_by, asked_of, check_by, colours_asked, command_by, command_line, is_version_word, keys_by, lint_by, said_in, show_by, watch_by};
 
 use crate::check::{Check, check_of};
 use crate::cli::{Vocabulary, command_line, command_named};
+use crate::colour::{ColourWord, colours_of};
 use crate::completion::Shell;
 use crate::keys::{Keys, keys_initial, keys_of};
-use crate::lint::{Lint, lint_of};
+use crate::lint::{Lint, is_for_people, lint_form_of, lint_of};
 use crate::show::{Show, show_of};
 use crate::watch::{Watch, watch_of};
 use clap::error::ErrorKind;
@@ -40,11 +41,25 @@ pub enum Command<'a> {
     /// Lists the registers of the tower file that is named.
     Tower(&'a str),
     /// Says what a code or a word of the report means, or lists all of them.
-    Explain(Option<&'a str>),
+    Explain(Option<&'a str>, ColourWord),
     Version,
     /// Prints the help of all commands.
     Manual,
     Completion(Shell),
+}
+
+impl Command<'_> {
+    /// The colours that the command asks for; none but `show`, `lint` and `explain` has any.
+    pub fn colours(&self) -> ColourWord
+        ensures { result ≡ colours_asked (asked_of self.now) }
+    {
+        match self {
+            Command::Show(show) => show.colours,
+            Command::Lint(lint) => lint.colours,
+            Command::Explain(_, colours) => *colours,
+            _ => ColourWord::Never,
+        }
+    }
 }
 
 /// The command that words ask for; the first word is the program's name. The error's text is for standard error.
@@ -133,11 +148,34 @@ fn complaint(matches: &ArgMatches<'_>) -> (ErrorKind, &'static str) {
             "--only needs --as json or --as edn",
         ),
         Some(("keys", found)) => keys_complaint(found),
+        Some(("show", _)) => (
+            ErrorKind::ArgumentConflict,
+            "--colour always does not go with --svg or --html",
+        ),
+        Some(("lint", found)) => lint_complaint(found),
         _ => (
             ErrorKind::MissingRequiredArgument,
             "a tower file or a trace is required",
         ),
     }
+}
+
+/// What is amiss with the words of `lint`: the colours, or else that there is nothing to read.
+fn lint_complaint(found: &ArgMatches<'_>) -> (ErrorKind, &'static str) {
+    match lint_colours(found) {
+        Some(_) => (
+            ErrorKind::MissingRequiredArgument,
+            "a tower file or a trace is required",
+        ),
+        None => (
+            ErrorKind::ArgumentConflict,
+            "--colour always needs --as human",
+        ),
+    }
+}
+
+fn lint_colours(found: &ArgMatches<'_>) -> Option<ColourWord> {
+    colours_of(found, is_for_people(lint_form_of(found)?))
 }
 
 /// What is amiss with the words of `keys`: the initial value, or else the writers.
@@ -267,7 +305,7 @@ fn other_command<'a>(name: &str, found: &ArgMatches<'a>) -> Option<Command<'a>>
     match name {
         "safe" => Some(Command::Safe(found.get_str("TRACE"))),
         "tower" => Some(Command::Tower(found.get_str("FILE")?)),
-        "explain" => Some(Command::Explain(found.get_str("CODE"))),
+        "explain" => Some(Command::Explain(found.get_str("CODE"), colours_of(found, true)?)),
         "version" => Some(Command::Version),
         "manual" => Some(Command::Manual),
         _ => Some(Command::Completion(shell_of(found)?)),

@@ -1,0 +1,2 @@
+-- what is shown, after more was added
+pub mod Adding

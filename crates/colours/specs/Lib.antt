@@ -1,0 +1,2 @@
+-- words of the public clauses
+pub mod Painted
