@@ -407,7 +407,7 @@ static DENIED: ArgumentEntry = ArgumentEntry {
 
 static CODE: ArgumentEntry = ArgumentEntry {
     name: "CODE",
-    help: "A code, such as X7, or a word of the report; all are listed where none is named",
+    help: "A code or its name, such as X7 or ValueTaken, or a word of the report; all are listed where none is named",
     ..PLACE
 };
 
