@@ -227,7 +227,8 @@ fn is_column_at(line: &[u8], at: usize) -> bool
     !is_blank(line[at]) && (at == 0 || is_blank(line[at - 1]))
 }
 
-/// How many bytes the word has that begins a line and names a process or an operation, as `p0` or `W1` before two blanks.
+/// How many bytes the word has that begins a line and names a process or operations, as `p0`, `W1` or `BC` before two
+/// blanks.
 fn word_in(line: &[u8]) -> usize
     ensures { result ≤ length line.now }
 {
@@ -238,12 +239,12 @@ fn word_in(line: &[u8]) -> usize
     if line[at..].starts_with(b"  ") { at } else { 0 }
 }
 
-/// A word is a letter, which is a capital or a `p`, and digits.
+/// A word is a capital or a `p`, and then capitals and digits.
 fn is_of_word(byte: u8, at: usize) -> bool {
     if at == 0 {
         byte == b'p' || byte.is_ascii_uppercase()
     } else {
-        byte.is_ascii_digit()
+        byte.is_ascii_uppercase() || byte.is_ascii_digit()
     }
 }
 
