@@ -32,9 +32,9 @@ returns c =
           ∙ map_alike (λ (op : Op). label_by letters (get same_id places op.id) op) (λ (op : Op). label_by letters (rank_of order op.id) op) (λ op. ap (λ rank. label_by letters rank op) (c.in_ok-places.ensures op.id)) chosen.shown.items;
       marks = rw c.deref-3.ensures.value at c.in_ok-marks.ensures;
       front = rw c.deref-12.ensures.value at c.in_ok-front.ensures;
-      moments = rw (c.deref-13.ensures.value, c.len.ensures, c.as_str.ensures.value) at c.in_ok-moments.ensures;
+      moments = rw (c.deref-13.ensures.value, c.as_str.ensures.value) at c.in_ok-moments.ensures;
       spans = rw (c.deref-4.ensures.value, c.deref-5.ensures.value) at c.in_ok-spans.ensures;
       folded = rw (c.deref-6.ensures.value, c.deref-7.ensures.value) at c.in_ok-folded.ensures;
       seats = rw c.deref-8.ensures.value at c.in_ok-seats.ensures;
-      all = let both = shown_and_hidden ops (asked_ids ops witness around letters) (extent_of witness c.args.extent) chosen choice in omega (arith, c.len-2.ensures, c.len-3.ensures, both);
+      all = let both = shown_and_hidden ops (asked_ids ops witness around letters) (extent_of witness c.args.extent) chosen choice in omega (arith, c.len.ensures, c.len-2.ensures, both);
     }
