@@ -12,7 +12,7 @@ use words::TowerWord;
 
 /// Adds the words that ask for a tower; that of atomic registers is asked for by none.
 pub fn push_tower_words(text: &mut String, tower: TowerWord) -> Result<(), AllocError>
-    ensures { OnOk result (string_bytes text.new ≡ string_bytes text.old ++ tower_words (asked_tower tower)) }
+    ensures { OnOk result (string_bytes text.new ≡ string_bytes text.old ++ tower_words (asked_tower tower.entry)) }
 {
     match tower {
         TowerWord::File(name) => push_option(text, "tower", name),
