@@ -227,8 +227,7 @@ fn is_column_at(line: &[u8], at: usize) -> bool
     !is_blank(line[at]) && (at == 0 || is_blank(line[at - 1]))
 }
 
-/// How many bytes the word has that begins a line and names a process or operations, as `p0`, `W1` or `BC` before two
-/// blanks.
+/// How many bytes the word has that begins a line, before two blanks, and names a process or operations.
 fn word_in(line: &[u8]) -> usize
     ensures { result ≤ length line.now }
 {
