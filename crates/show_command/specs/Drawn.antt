@@ -16,6 +16,8 @@ use Rattle.register_book.specs.BookModel.{BookModel, claimed_of}
 use Rattle.register_book.specs.Fault.{IsWitness}
 use Rattle.tower_file.specs.Contents.{TowerModel}
 use Rattle.phrases.specs.Names.{register_name}
+use Rattle.report.specs.declared.doubt.Doubt.{Doubt}
+use Rattle.report.specs.Doubted.{is_doubted}
 use Rattle.timeline.specs.declared.choice.Extent.{Extent}
 use Rattle.timeline.specs.declared.choice.Extent.TheVariants.{All, Around}
 use Rattle.show.specs.declared.scene.Sketch.{Sketch}
@@ -50,15 +52,16 @@ abbrev pub drawn_ops : Bool → List Op → List Op
 drawn_ops all ops = filter (is_drawn all) ops
 
 -- the register of this number: its name, its kind, its value at first, its operations, the witness, none exactly where it
--- holds, and an order
-pub record IsSubjectOf (tower : TowerModel) (id : RegId) (book : BookModel) (all : Bool) (subject : Subject) : Type 0 where
+-- holds, an order, and whether its failure rests on an element that was left out
+pub record IsSubjectOf (asked : AskedShow) (tower : TowerModel) (doubts : List Doubt) (id : RegId) (book : BookModel) (subject : Subject) : Type 0 where
   pub name : subject.name.now ≡ register_name tower.registers id
   pub kind : subject.kind ≡ book.claim.kind
   pub initial : IfSome (slice_get tower.registers id.0) (λ register. IsInitialOf register.claim subject.initial)
-  pub ops : ops_in_slots subject.slots.now ≡ drawn_ops all book.ops
+  pub ops : ops_in_slots subject.slots.now ≡ drawn_ops asked.all book.ops
   pub witness : IfSome subject.witness (IsWitness book.claim book.ops)
   pub none : IsNone subject.witness ↔ Holds (claimed_of book)
   pub order : IsDrawnOrder book subject.order.now
+  pub in_doubt : subject.in_doubt ≡ is_doubted doubts id
 
 -- how much of a register is asked for
 abbrev pub asked_extent : AskedShow → Extent
@@ -76,7 +79,7 @@ theme_by asked_themes.Light = shown_themes.Light
 theme_by asked_themes.Dark = shown_themes.Dark
 
 -- the sketch of the register of this number, with as much of it as is asked for
-pub record IsSketchOf (asked : AskedShow) (tower : TowerModel) (id : RegId) (book : BookModel) (sketch : Sketch) : Type 0 where
-  pub subject : IsSubjectOf tower id book asked.all sketch.subject
+pub record IsSketchOf (asked : AskedShow) (tower : TowerModel) (doubts : List Doubt) (id : RegId) (book : BookModel) (sketch : Sketch) : Type 0 where
+  pub subject : IsSubjectOf asked tower doubts id book sketch.subject
   pub extent : sketch.extent ≡ asked_extent asked
   pub scene : IsScene sketch.subject sketch.extent sketch.scene

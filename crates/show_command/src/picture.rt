@@ -337,12 +337,11 @@ fn order_of(alloc: Global, book: &RegisterBook) -> Result<Vec<OpId>, Memory>
     }
 }
 
-/// What is drawn of a register: its operations, an order of them, and what is said of them.
+/// What is drawn of a register: its operations, an order of them, and the notes below them.
 #[derive(Drop)]
 struct DrawnRegister<'t> {
     slots: Vec<Option<Op<'t>>>,
     order: Vec<OpId>,
-    in_doubt: bool,
     notes: String,
 }
 
@@ -368,7 +367,6 @@ fn drawing_of<'x>(
     Ok(DrawnRegister {
         slots,
         order,
-        in_doubt: is_doubted(view.doubts, id),
         notes,
     })
 }
@@ -434,22 +432,22 @@ fn sketch_of<'a, 'x>(
 ) -> Result<Sketch<'a, 'x>, AllocError>
     requires order { IsDrawnOrder book.now drawing.now.order.items }
     requires slots { ops_in_slots drawing.now.slots.items ≡ drawn_ops (asked_show view.asked.now).all book.now.ops }
-    ensures { IfOk result (IsSketchOf (asked_show view.entry.asked.now) tower.now id book.now) }
+    ensures { IfOk result (IsSketchOf (asked_show view.entry.asked.now) tower.now view.entry.doubts.now id book.now) }
 {
-    let subject = subject_of(tower, book, id, view.asked.all, drawing);
+    let subject = subject_of(view, tower, id, book, drawing);
     Sketch::of(view.alloc, subject, extent_of(view.asked))
 }
 
-fn subject_of<'a, 't>(
+fn subject_of<'a, 'x>(
+    view: ShownRun<'_, '_, '_, '_, 'x, '_, '_, '_, '_>,
     tower: &'a Tower,
-    book: &RegisterBook<'t>,
     id: RegId,
-    all: bool,
-    drawing: &'a DrawnRegister<'t>,
-) -> Subject<'a, 't>
+    book: &RegisterBook<'x>,
+    drawing: &'a DrawnRegister<'x>,
+) -> Subject<'a, 'x>
     requires order { IsDrawnOrder book.now drawing.now.order.items }
-    requires slots { ops_in_slots drawing.now.slots.items ≡ drawn_ops all book.now.ops }
-    ensures { IsSubjectOf tower.now id book.now all result }
+    requires slots { ops_in_slots drawing.now.slots.items ≡ drawn_ops (asked_show view.asked.now).all book.now.ops }
+    ensures { IsSubjectOf (asked_show view.entry.asked.now) tower.now view.entry.doubts.now id book.now result }
 {
     Subject {
         name: match tower.name(id) {
@@ -464,7 +462,7 @@ fn subject_of<'a, 't>(
         slots: &drawing.slots,
         witness: book.witness(),
         order: &drawing.order,
-        in_doubt: drawing.in_doubt,
+        in_doubt: is_doubted(view.doubts, id),
         notes: &drawing.notes,
     }
 }

@@ -30,4 +30,5 @@ returns c =
       witness = c.witness.ensures.witness;
       none = c.witness.ensures.none;
       order = subst (λ (ids : List OpId). IsDrawnOrder c.args.book.now ids) (sym c.deref-2.ensures.value) c.requires.order;
+      in_doubt = c.is_doubted.ensures;
     }
