@@ -2,7 +2,7 @@
 //!
 //!     let setup = Setup { rt, alloc, tower: &tower, field: MomentField::Index, shards: 2 };
 //!     let run = run_traces(setup, &[first, second], &NoGate)?;
-//!     // run.closed.book(register), run.closed.journal(shard), run.logs[0].lines, run.logs[1].broken
+//!     // run.closed.book(register), run.closed.changes(shard), run.logs[0].lines, run.logs[1].broken
 //!
 //!     let pages = Pages::new(alloc)?;
 //!     let run = run_readers(setup, readers, &pages, &NoGate)?;

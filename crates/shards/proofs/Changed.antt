@@ -84,17 +84,17 @@ pub change_of : (plan : Plan) (shard : Shard) (entry : Entry) (book edited : Boo
     → IsShardOf plan shard → entry.register.0 % plan.shards ≡ shard.at → entry.register.0 < length plan.claims
     → book ≡ get_or shard.books.items (entry.register.0 / shard.shards) book → IsReply (claimed_of book) entry.edit entry.reply → claimed_of edited ≡ after_edit (claimed_of book) entry.edit
     → IsTrue held ↔ Holds (claimed_of book)
-    → IfSome change (IsVerdictChangeTo edited entry.register (length shard.journal.items) held)
+    → IfSome change (IsVerdictChangeTo edited entry.register (length shard.entries) held)
     → (IsNone change → IsTrue held ↔ Holds (claimed_of edited))
-    → IsChangeIfAny plan shard.journal.items entry change
+    → IsChangeIfAny plan shard.entries entry change
 change_of plan shard entry book edited held change kept here known is reply edited_to was some none =
     let has : HasBook plan shard entry.register.0 = has_book plan shard entry.register.0 kept here known in
-    let left : claimed_of book ≡ left_by shard.journal.items entry.register.0 has.claim = same_book plan shard entry.register.0 book has is in
-    let replied : IsReply (left_by shard.journal.items entry.register.0 has.claim) entry.edit entry.reply = subst (λ (state : RegisterState). IsReply state entry.edit entry.reply) left reply in
-    let after : claimed_of edited ≡ left_by (shard.journal.items ++ entry ∷ []) entry.register.0 has.claim =
-    edited_to ∙ ap (λ (state : RegisterState). after_edit state entry.edit) left ∙ sym (left_push_own has.claim shard.journal.items entry replied) in
-    any_change plan shard.journal.items entry has.claim edited held change has.known after
-    (holds_by plan shard.journal.items entry.register.0 has.claim (claimed_of book) held has.known left was)
+    let left : claimed_of book ≡ left_by shard.entries entry.register.0 has.claim = same_book plan shard entry.register.0 book has is in
+    let replied : IsReply (left_by shard.entries entry.register.0 has.claim) entry.edit entry.reply = subst (λ (state : RegisterState). IsReply state entry.edit entry.reply) left reply in
+    let after : claimed_of edited ≡ left_by (shard.entries ++ entry ∷ []) entry.register.0 has.claim =
+    edited_to ∙ ap (λ (state : RegisterState). after_edit state entry.edit) left ∙ sym (left_push_own has.claim shard.entries entry replied) in
+    any_change plan shard.entries entry has.claim edited held change has.known after
+    (holds_by plan shard.entries entry.register.0 has.claim (claimed_of book) held has.known left was)
     some none
 
 changes_more : (plan : Plan) (journal : List Entry) (told : List VerdictChange) (entry : Entry) (change : Option VerdictChange)

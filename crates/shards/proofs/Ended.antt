@@ -32,7 +32,7 @@ one_at xs place within =
 ended_at : (shards : List Shard) (place : ℕ) (shard : Shard) → slice_get shards place ≡ Some shard → slice_get (map ended_of shards) place ≡ Some (ended_of shard)
 ended_at shards place shard e = slice_get-map ended_of shards place ∙ ap (option_map ended_of) e
 
-journal_at : (shards : List Shard) (place : ℕ) (shard : Shard) → slice_get shards place ≡ Some shard → journal_of (map ended_of shards) place ≡ shard.journal.items
+journal_at : (shards : List Shard) (place : ℕ) (shard : Shard) → slice_get shards place ≡ Some shard → journal_of (map ended_of shards) place ≡ shard.entries
 journal_at shards place shard e = ap (λ (found : Option ClosedShard). unwrap_or (option_map (λ one. one.journal) found) []) (ended_at shards place shard e)
 
 changes_at : (shards : List Shard) (place : ℕ) (shard : Shard) → slice_get shards place ≡ Some shard → changes_of (map ended_of shards) place ≡ shard.changes.items
@@ -43,21 +43,21 @@ books_at shards place shard e = ap (λ (found : Option ClosedShard). unwrap_or (
 
 -- the book of a register is at one slot of its shard
 book_at : (plan : Plan) (shard : Shard) (register : ℕ) → IsShardOf plan shard → shard.at ≡ register % plan.shards
-    → slice_get (map claimed_of shard.books.items) (register / plan.shards) ≡ option_map (left_by shard.journal.items register) (slice_get plan.claims register)
+    → slice_get (map claimed_of shard.books.items) (register / plan.shards) ≡ option_map (left_by shard.entries register) (slice_get plan.claims register)
 book_at plan shard register kept here =
     let number : (register / plan.shards) * plan.shards + shard.at ≡ register =
     ap (λ (at : ℕ). (register / plan.shards) * plan.shards + at) here ∙ div-add-mod' register plan.shards in
     kept.books (register / plan.shards)
-    ∙ ap (λ (one : ℕ). option_map (left_by shard.journal.items one) (slice_get plan.claims one)) number
+    ∙ ap (λ (one : ℕ). option_map (left_by shard.entries one) (slice_get plan.claims one)) number
 
 -- shards with settled journals for the passes of all feeders are closed
-closed : (plan : Plan) (passes : List PassModel) (shards : List Shard) → length shards ≡ plan.shards → 0 < plan.shards → All (IsShardOf plan) shards
+pub closed : (plan : Plan) (passes : List PassModel) (shards : List Shard) → length shards ≡ plan.shards → 0 < plan.shards → All (IsShardOf plan) shards
     → AreItsPasses plan passes × AreComplete plan.feeders passes
     → ((place : ℕ) (shard : ShardModel) → slice_get (map held_of shards) place ≡ Some shard → (shard.at ≡ place) × IsSettledJournal plan passes place shard.journal)
     → IsClosed plan passes (map ended_of shards)
 closed plan passes shards many some kept whole finished =
     let many' : length (map ended_of shards) ≡ plan.shards = length-map shards ended_of ∙ many in
-    let held : (place : ℕ) (there : At shards place) → (there.one.at ≡ place) × IsSettledJournal plan passes place there.one.journal.items =
+    let held : (place : ℕ) (there : At shards place) → (there.one.at ≡ place) × IsSettledJournal plan passes place there.one.entries =
     λ place there. finished place (held_of there.one) (slice_get-map held_of shards place ∙ ap (option_map held_of) there.is) in
     record {
       of_plan = whole.0;
@@ -96,6 +96,6 @@ unfinished plan wanted passes shards fault many kept fault_is = record {
   shards = map held_of shards;
   many = length-map shards held_of ∙ many;
   of_plan = All-map (λ held. (held.at < plan.shards) × IsJournalOf plan held.at held.journal) held_of shards
-      (All-weaker (IsShardOf plan) (λ shard. (shard.at < plan.shards) × IsJournalOf plan shard.at shard.journal.items) (λ shard is. (is.here, is.of_shard)) shards kept);
+      (All-weaker (IsShardOf plan) (λ shard. (shard.at < plan.shards) × IsJournalOf plan shard.at shard.entries) (λ shard is. (is.here, is.of_shard)) shards kept);
   fault_is = fault_is;
 }

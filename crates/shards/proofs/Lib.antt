@@ -1,8 +1,9 @@
--- a shard: where the book of a register is, what one more entry leaves, and how it begins
+-- a shard: where the book of a register is, what one more entry leaves, the journal that it keeps, and how it begins
 mod Slots
 mod Journals
 mod Opened
 mod Kept
+mod KeptJournals
 mod Changed
 mod EachChange
 -- laws of legal journals: prefixes, edits and replies, and a lone feeder
@@ -30,5 +31,10 @@ mod Locked
 -- what is left at the end: passes for the feeders without one, and the closed shards
 mod Others
 mod Ended
+-- a lone feeder: its pass, its edits and questions in its shards, and how they begin
+mod PassAlone
+mod CallsAlone
+mod OpenedAlone
+mod EndedAlone
 -- what may cross threads
 pub mod Crosses

@@ -99,6 +99,6 @@ module _ (plan : Plan) (passes : List PassModel) where
       let within : place < length (map held_of shards) = slice_get_within (map held_of shards) place shard e in
       let long : length (map held_of shards) ≡ length shards = length-map shards held_of in
       let each : All (λ held. IsJournalOf plan held.at held.journal) (map held_of shards) =
-      All-map (λ held. IsJournalOf plan held.at held.journal) held_of shards (All-weaker (IsShardOf plan) (λ s. IsJournalOf plan s.at s.journal.items) (λ s k. k.of_shard) shards kept) in
+      All-map (λ held. IsJournalOf plan held.at held.journal) held_of shards (All-weaker (IsShardOf plan) (λ s. IsJournalOf plan s.at s.entries) (λ s k. k.of_shard) shards kept) in
       let this : IsJournalOf plan shard.at shard.journal = subst (λ (held : ShardModel). IsJournalOf plan held.at held.journal) (get_or_from_slice_get (map held_of shards) place shard shard e) (each place shard within) in
       ((fit place shard e).in_place, settled_at place shard this (fit place shard e) (rise place (omega arith)) (owned place shard e))

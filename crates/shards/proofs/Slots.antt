@@ -2,6 +2,7 @@
 use Rattle.std.proofs.Common.{◌≡◌, ◌≢◌, ℕ, zero, suc, ◌+◌, ◌*◌, ◌/◌, ◌%◌, ◌<◌, List, [], ◌∷◌, ◌++◌, set, length, Some, refl, sym, ap, ◌∙◌, arith}
 use Rattle.std.specs.List.{slice_get}
 use Rattle.std.proofs.lemmas.Nat.{div-add-mod', div-mul-add}
+use Rattle.std.proofs.lemmas.Option.{same_Some}
 
 pub register_of : (register shards at : ℕ) → register % shards ≡ at → register / shards * shards + at ≡ register
 register_of register shards at here = ap (λ (rest : ℕ). register / shards * shards + rest) (sym here) ∙ div-add-mod' register shards
@@ -34,3 +35,8 @@ get_push_below (x ∷ xs) y (suc i) below = get_push_below xs y i (omega arith)
 pub get_push_at : {X : Type 0} (xs : List X) (y : X) → slice_get (xs ++ y ∷ []) (length xs) ≡ Some y
 get_push_at [] y = refl
 get_push_at (x ∷ xs) y = get_push_at xs y
+
+pub set_as_it_is : {X : Type 0} (xs : List X) (k : ℕ) (x : X) → slice_get xs k ≡ Some x → set xs k x ≡ xs
+set_as_it_is [] k x is = refl
+set_as_it_is {X = X} (y ∷ ys) zero x is = ap (λ (z : X). z ∷ ys) (sym (same_Some y x is))
+set_as_it_is {X = X} (y ∷ ys) (suc k) x is = ap (λ (zs : List X). y ∷ zs) (set_as_it_is ys k x is)

@@ -10,10 +10,10 @@ use Rattle.shards.specs.declared.entry.NumberedEntry.{NumberedEntry}
 use Rattle.shards.specs.Plain.{PlainEntry, plain_entry}
 use Rattle.shards.specs.Pass.{PassModel}
 use Rattle.shards.specs.Merge.{IsStranger, SubmittedAt, numbered}
-use Rattle.shards.specs.Closing.{HasNoStranger, HasPassOf, ShardModel, IsFirstStranger}
+use Rattle.shards.specs.Closing.{HasNoStranger, ShardModel, IsFirstStranger}
 use Rattle.shards.specs.Shard.{AreOwned, IsOwned}
 use Rattle.shards.proofs.Covers.{IsAmong}
-use Rattle.shards.proofs.Passes.{AreApart, all_of_none, all_of_one}
+use Rattle.shards.proofs.Passes.{AreApart, all_of_one}
 
 abbrev number_of : NumberedEntry → ℕ
 number_of known = known.number

@@ -7,7 +7,9 @@ pub mod Pass
 pub mod Steps
 pub mod Merge
 pub mod Closing
+pub mod Alone
 pub mod Code
 -- words of private clauses
+pub mod GhostEntries
 pub mod Compact
 pub mod Shard

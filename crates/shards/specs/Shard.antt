@@ -1,5 +1,5 @@
 -- The fields of a shard, passes in step, and what closing has gone through; for private clauses alone.
-use Rattle.std.specs.Prelude.{◌≡◌, ◌≢◌, ◌↔◌, ◌⊎◌, ◌<◌, ◌+◌, ◌*◌, ℕ, Bool, List, [], ◌∷◌, length, Option, Some, option_map, map, unwrap_or, slice_index_or, All, IfSome, IsNone, IsSomeAnd, IsTrue}
+use Rattle.std.specs.Prelude.{◌≡◌, ◌≢◌, ◌↔◌, ◌⊎◌, ◌<◌, ◌+◌, ◌*◌, ◌^◌, ℕ, Bool, false, List, [], ◌∷◌, length, Option, Some, option_map, map, unwrap_or, slice_index_or, All, IfSome, IsNone, IsSomeAnd, IsTrue}
 use Rattle.std.specs.List.{AllByRecursion, AllWithin, slice_get}
 use Rattle.intervals.specs.Terms.{RegisterState}
 use Rattle.intervals.specs.declared.operation.RegId.{RegId}
@@ -27,23 +27,53 @@ AreBooks plan at journal books =
 abbrev pub AreEntryCounts : Plan → List Entry → List ℕ → Type 0
 AreEntryCounts plan journal counts = (length counts ≡ plan.feeders) × ((feeder : ℕ) → feeder < plan.feeders → slice_get counts feeder ≡ Some (count_by feeder journal))
 
--- a shard of the plan: its journal is one of that shard, its books are what the journal leaves, and its counts are
--- those of the entries by feeder, and its changes those of its journal
+-- a journal that a shard keeps has its entries
+abbrev pub IsKeptJournal : Shard → Type 0
+IsKeptJournal shard = IsTrue shard.keeps → shard.journal.items ≡ shard.entries
+
+-- a shard of the plan: its entries are a journal of that shard, its books are what they leave, its counts are those of
+-- the entries and of the entries by feeder, its changes are those by the entries, and a journal that it keeps has them
 pub record IsShardOf (plan : Plan) (shard : Shard) : Type 0 where
   pub shards : shard.shards ≡ plan.shards
   pub here : shard.at < plan.shards
-  pub of_shard : IsJournalOf plan shard.at shard.journal.items
-  pub books : AreBooks plan shard.at shard.journal.items (map claimed_of shard.books.items)
-  pub counts : AreEntryCounts plan shard.journal.items shard.counts.items
-  pub changes : AreVerdictChanges plan shard.journal.items shard.changes.items
+  pub of_shard : IsJournalOf plan shard.at shard.entries
+  pub many : shard.many ≡ length shard.entries
+  pub books : AreBooks plan shard.at shard.entries (map claimed_of shard.books.items)
+  pub counts : AreEntryCounts plan shard.entries shard.counts.items
+  pub changes : AreVerdictChanges plan shard.entries shard.changes.items
+  pub kept : IsKeptJournal shard
 
--- the model of a shard under its lock: its number and its journal
+-- a shard of the plan that keeps its journal
+pub record IsKeptShardOf (plan : Plan) (shard : Shard) : Type 0 where
+  pub of_plan : IsShardOf plan shard
+  pub keeps : IsTrue shard.keeps
+
+-- what is known of a shard at the end: how many entries it has, that a journal that it keeps has them, and that they are
+-- all by feeder 0 where it keeps none
+pub record IsEndedShard (shard : Shard) : Type 0 where
+  pub many : shard.many ≡ length shard.entries
+  pub kept : IsKeptJournal shard
+  pub alone : shard.keeps ≡ false → All (λ entry. entry.feeder ≡ 0) shard.entries
+
+-- the entries of each shard
+abbrev pub entries_of_each : List Shard → List (List Entry)
+entries_of_each shards = map (λ shard. shard.entries) shards
+
+-- the shards of a plan with one feeder, each at the place of its number
+pub record AreShardsAlone (plan : Plan) (shards : List Shard) : Type 0 where
+  pub one : plan.feeders ≡ 1
+  pub many : length shards ≡ plan.shards
+  pub some : 0 < plan.shards
+  pub few : plan.shards < 2 ^ 32
+  pub each : (place : ℕ) (shard : Shard) → slice_get shards place ≡ Some shard → (shard.at ≡ place) × IsShardOf plan shard
+
+-- the model of a shard under its lock: its number and its entries
 abbrev pub held_of : Shard → ShardModel
-held_of shard = record { at = shard.at; journal = shard.journal.items }
+held_of shard = record { at = shard.at; journal = shard.entries }
 
--- the model of a closed shard: its journal, and the claim and the operations of each book
+-- the model of a closed shard: its entries, the claim and the operations of each book, and the changes
 abbrev pub ended_of : Shard → ClosedShard
-ended_of shard = record { journal = shard.journal.items; books = map claimed_of shard.books.items; changes = shard.changes.items }
+ended_of shard = record { journal = shard.entries; books = map claimed_of shard.books.items; changes = shard.changes.items }
 
 -- the change has this register and number and is to the verdict of a book, which is another than before, where the
 -- last value says what it was

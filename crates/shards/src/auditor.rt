@@ -10,6 +10,7 @@ ghost use Rattle.shards.specs.Plan.{plan_of};
 ghost use Rattle.shards.specs.Steps.{entered, IsLive, IsRefusal, IsSubmitted};
 
 use crate::closing::closing_fault;
+use crate::gate::tell_change;
 use crate::parts::{put_together, take_apart};
 use crate::shard::Shard;
 use crate::state::ShardState;
@@ -212,11 +213,7 @@ impl<'t, O: Opening> Auditor<'t, O> {
             return Err(misplaced(sharded.shard));
         }
         let answered = state.submit(pass, sharded.register, *edit);
-        if let Ok(receipt) = &answered {
-            if let Some(change) = &receipt.change {
-                gate.changed(pass.feeder(), change);
-            }
-        }
+        tell_change(gate, pass.feeder(), &answered);
         answered
     }
 
@@ -292,7 +289,7 @@ fn open_locks<'t, O: Opening>(
 {
     let mut locks = Vec::with_capacity(alloc, shards as usize)?;
     for at in 0..shards {
-        let shard = Shard::new(alloc, tower, at, shards, feeders)?;
+        let shard = Shard::new(alloc, tower, at, shards, feeders, true)?;
         locks.push_reserved(Mutex::new(ShardState::new(shard)));
     }
     Ok(locks)

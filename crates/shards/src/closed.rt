@@ -1,9 +1,10 @@
 //! What a closed auditor leaves.
 
-ghost use Rattle.std.specs.Prelude.{◌≡◌, [], map, option_map};
+ghost use Rattle.std.specs.Prelude.{◌≡◌, [], All, IfSome, map, option_map};
+ghost use Rattle.std.specs.List.{slice_get};
 ghost use Rattle.register_book.specs.BookModel.{claimed_of};
 ghost use Rattle.shards.specs.Closing.{book_of, changes_of, journal_of};
-ghost use Rattle.shards.specs.Shard.{ended_of};
+ghost use Rattle.shards.specs.Shard.{IsEndedShard, ended_of};
 
 use crate::shard::Shard;
 use crate::{Entry, VerdictChange};
@@ -11,24 +12,27 @@ use intervals::RegId;
 use register_book::RegisterBook;
 use std::marker::Model;
 
-/// The journals of all shards, and the books that they leave.
+/// The journals of all shards, and the books that they leave. The journals of a lone feeder are there in proofs alone.
 #[derive(Drop)]
 pub struct Closed<'t> {
     shards: Vec<Shard<'t>>,
 }
 
 impl<'t> Model for Closed<'t> {
-    ghost use Rattle.std.specs.Prelude.{List, map};
+    ghost use Rattle.std.specs.Prelude.{All, List, map};
     ghost use Rattle.shards.specs.Closing.{ClosedShard};
-    ghost use Rattle.shards.specs.Shard.{ended_of};
+    ghost use Rattle.shards.specs.Shard.{IsEndedShard, ended_of};
 
     ghost Value = { List ClosedShard };
 
     ghost view = { λ c. map ended_of c.shards.items };
+
+    ghost invariant = { λ c. All IsEndedShard c.shards.items };
 }
 
 impl<'t> Closed<'t> {
     pub(crate) fn new(shards: Vec<Shard<'t>>) -> Self
+        requires { All IsEndedShard shards.items }
         ensures { result ≡ map ended_of shards.entry.items }
     {
         Closed { shards }
@@ -59,21 +63,36 @@ impl<'t> Closed<'t> {
         }
     }
 
-    /// The journal of a shard; empty where there is no such shard.
-    pub fn journal(&self, shard: u32) -> &[Entry<'t>]
-        ensures { result.now ≡ journal_of self.now shard }
+    /// The feeder of the entry of this number in a shard's journal; none where there is no such entry.
+    pub fn feeder_of(&self, shard: u32, number: u64) -> Option<u32>
+        ensures { result ≡ option_map (λ entry. entry.feeder) (slice_get (journal_of self.now shard) number) }
     {
         match self.shards.get(shard as usize) {
-            Some(shard) => shard.journal.as_slice(),
-            None => nothing(self),
+            Some(shard) => feeder_in(shard, number),
+            None => None,
+        }
+    }
+
+    /// The journal of a shard, where it was kept; none where it was not, or where there is no such shard.
+    pub fn journal(&self, shard: u32) -> Option<&[Entry<'t>]>
+        ensures { IfSome result (λ journal. journal.now ≡ journal_of self.now shard) }
+    {
+        match self.shards.get(shard as usize) {
+            Some(shard) if shard.keeps => Some(shard.journal.as_slice()),
+            _ => None,
         }
     }
 }
 
-fn nothing<'a, 't>(_closed: &'a Closed<'t>) -> &'a [Entry<'t>]
-    ensures { result.now ≡ [] }
+/// The feeder of the entry of this number in a shard. What a lone feeder entered is not kept, and is by feeder 0.
+fn feeder_in(shard: &Shard, number: u64) -> Option<u32>
+    requires { IsEndedShard shard.now }
+    ensures { result ≡ option_map (λ entry. entry.feeder) (slice_get shard.now.entries number) }
 {
-    &[]
+    if shard.keeps {
+        return Some(shard.journal.get(number as usize)?.feeder);
+    }
+    if number < shard.many { Some(0) } else { None }
 }
 
 fn no_changes<'a>(_closed: &'a Closed<'_>) -> &'a [VerdictChange]

@@ -6,7 +6,7 @@ ghost use Rattle.std.specs.List.Sorted.{IsPartitionPoint};
 ghost use Rattle.shards.specs.Closing.{AreComplete, AreItsPasses, ShardModel, IsClosingFault, IsFirstStranger, IsFirstWithStranger};
 ghost use Rattle.shards.specs.Merge.{IsStranger, SubmittedAt};
 ghost use Rattle.shards.specs.Pass.{own_entries};
-ghost use Rattle.shards.specs.Shard.{AreOwned, AreStarts, IsShardOf, IsOwned, IsSettledFor, AreNumberedBelow, held_of};
+ghost use Rattle.shards.specs.Shard.{AreOwned, AreStarts, IsKeptShardOf, IsOwned, IsSettledFor, AreNumberedBelow, held_of};
 ghost use Rattle.shards.specs.Steps.{numbered_entry};
 
 use crate::fitting::{are_its_passes, first_missing, first_unfit, pass_of};
@@ -26,7 +26,7 @@ pub fn closing_fault<'t, O: Opening>(
     requires name { name ≡ O.plan.name }
     requires feeders { feeders ≡ O.plan.feeders }
     requires many { length shards.now ≡ O.plan.shards }
-    requires kept { All (IsShardOf O.plan) shards.now }
+    requires kept { All (IsKeptShardOf O.plan) shards.now }
     requires bound { O.plan.shards < 2 ^ 32 }
     requires few { O.plan.feeders ≤ 256 }
     ensures fault { IfSome result (IsClosingFault O.plan wanted passes.now (map held_of shards.now)) }
@@ -42,7 +42,7 @@ pub fn closing_fault<'t, O: Opening>(
     if let Some((shard, seen, found)) = first_unfit::<O>(feeders, shards, passes) {
         return Some(ShardFault::JournalBehind { shard, seen, found });
     }
-    let (shard, known) = first_stranger(shards, passes)?;
+    let (shard, known) = first_stranger::<O>(shards, passes)?;
     Some(ShardFault::Stranger {
         shard,
         feeder: known.entry.feeder,
@@ -51,7 +51,11 @@ pub fn closing_fault<'t, O: Opening>(
 }
 
 /// The least shard with a stranger, which is an entry that its feeder's pass did not submit, and the first there.
-fn first_stranger<'t>(shards: &[Shard<'t>], passes: &[Pass<'t>]) -> Option<(u32, NumberedEntry<'t>)>
+fn first_stranger<'t, O: Opening>(
+    shards: &[Shard<'t>],
+    passes: &[Pass<'t>],
+) -> Option<(u32, NumberedEntry<'t>)>
+    requires kept { All (IsKeptShardOf O.plan) shards.now }
     requires apart { AllPairs (λ a b. a.feeder ≢ b.feeder) passes.now }
     requires few { All (λ pass. pass.feeder < 256) passes.now }
     requires bound { length shards.now < 2 ^ 32 }
@@ -60,7 +64,7 @@ fn first_stranger<'t>(shards: &[Shard<'t>], passes: &[Pass<'t>]) -> Option<(u32,
 {
     for place in 0..shards.len() {
         let shard = &shards[place];
-        if let Some(known) = stranger_in(shard.journal.as_slice(), place as u32, passes) {
+        if let Some(known) = stranger_in(shard.kept::<O>(), place as u32, passes) {
             return Some((place as u32, known));
         }
     }

@@ -3,7 +3,7 @@
 ghost use Rattle.std.specs.Prelude.{◌≡◌, ◌↔◌, ◌<◌, ◌^◌, ℕ, All, Contains, IfSome, IsNone, IsTrue, length, map};
 ghost use Rattle.shards.specs.Closing.{AreComplete, AreFit, AreItsPasses, Fits, HasPassOf, IsFirstMissing, IsFirstUnfit, IsUnfit};
 ghost use Rattle.shards.specs.Pass.{own_entries};
-ghost use Rattle.shards.specs.Shard.{IsShardOf, Rises, held_of};
+ghost use Rattle.shards.specs.Shard.{IsKeptShardOf, Rises, held_of};
 
 use crate::keeping::first_lack;
 use crate::shard::Shard;
@@ -67,7 +67,7 @@ pub fn first_unfit<O: Opening>(
 ) -> Option<(u32, u64, u64)>
     requires feeders { feeders ≡ O.plan.feeders }
     requires many { length shards.now ≡ O.plan.shards }
-    requires kept { All (IsShardOf O.plan) shards.now }
+    requires kept { All (IsKeptShardOf O.plan) shards.now }
     requires passes { AreItsPasses O.plan passes.now }
     requires bound { O.plan.shards < 2 ^ 32 }
     ensures unfit { IfSome result (λ found. IsFirstUnfit passes.now (map held_of shards.now) found.0 found.1 found.2) }
@@ -90,7 +90,7 @@ fn lack_of<O: Opening>(
     passes: &[Pass],
 ) -> Option<(u64, u64)>
     requires feeders { feeders ≡ O.plan.feeders }
-    requires kept { IsShardOf O.plan shard.now }
+    requires kept { IsKeptShardOf O.plan shard.now }
     requires passes { AreItsPasses O.plan passes.now }
     ensures unfit { IfSome result (λ lack. IsUnfit passes.now place (held_of shard.now) lack.0 lack.1) }
     ensures none { IsNone result → Fits passes.now place (held_of shard.now) }
@@ -99,7 +99,7 @@ fn lack_of<O: Opening>(
     if shard.at != place {
         return Some((0, 0));
     }
-    let journal = shard.journal.as_slice();
+    let journal = shard.kept::<O>();
     for feeder in 0..feeders {
         if let Some(pass) = pass_of(passes, feeder) {
             if let Some(seen) = first_lack(pass, place, journal, shard.count::<O>(feeder)) {

@@ -1,9 +1,9 @@
-//! Hooks at the locks, from which a caller may watch a feeder or hold it, and is told of each change of a verdict.
+//! Hooks at the shards, from which a caller may watch a feeder or hold it, and is told of each change of a verdict.
 
-use crate::VerdictChange;
+use crate::{Receipt, ShardFault, VerdictChange};
 
-/// Hooks that are called while a feeder holds a shard's lock and after it has released it. Where `inside` or `changed`
-/// calls the auditor for a register of that shard, the call waits for ever.
+/// Hooks that are called while a feeder holds a shard's lock, or a shard of its own, and after it has released it. Where
+/// `inside` or `changed` calls the auditor for a register of a locked shard, the call waits for ever.
 pub trait Gate: Sync {
     /// Called once while the feeder holds the shard's lock.
     fn inside(&self, shard: u32, feeder: u32);
@@ -23,4 +23,13 @@ impl Gate for NoGate {
     fn inside(&self, _shard: u32, _feeder: u32) {}
 
     fn outside(&self, _feeder: u32) {}
+}
+
+/// Tells a gate the change of a verdict that an edit made, where it made one.
+pub fn tell_change<G: Gate>(gate: &G, feeder: u32, answered: &Result<Receipt, ShardFault>) {
+    if let Ok(receipt) = answered {
+        if let Some(change) = &receipt.change {
+            gate.changed(feeder, change);
+        }
+    }
 }

@@ -12,7 +12,8 @@ ghost use Rattle.shards.specs.VerdictChange.{AreVerdictChanges, IsAsBefore, IsVe
 ghost use Rattle.shards.specs.Plain.{plain_entry};
 ghost use Rattle.shards.specs.Pass.{PassModel, own_entries, IsPassOf, SeenModel, new_pass, learnt, with_own, with_seen, IsBehind, IsInKeeping, farthest_in, farthest_of};
 ghost use Rattle.shards.specs.Merge.{IsMerge};
-ghost use Rattle.shards.specs.Steps.{IsLive, IsSubmitted};
+ghost use Rattle.shards.specs.Steps.{IsLive, IsRefusal, IsStanding, IsSubmitted, entered};
+ghost use Rattle.shards.specs.Alone.{AreJournals, IsEnteredAlone, IsRefusalAlone, journal_in, pass_alone, with_entry};
 ghost use Rattle.intervals.specs.declared.operation.RegId.{RegId};
 ghost use Rattle.intervals.specs.declared.edit.Edit.{Edit};
 ghost use Rattle.shards.specs.declared.entry.Answer.{Answer};
@@ -58,6 +59,35 @@ pub fn a_lone_feeder_has_all_entries()
         → IsSubmitted plan pass register edit receipt → receipt.number ≡ length (own_entries pass receipt.shard) }
     ensures live { (plan : Plan) (pass pass' : PassModel) (register : ℕ) (answer : Answer) → plan.feeders ≡ 1
         → IsLive plan pass pass' register answer → answer.number ≡ length (own_entries pass (register % plan.shards)) }
+{}
+
+/// What a lone feeder enters and asks is what it would with the pass of an auditor that has these journals: an edit that was
+/// entered was submitted and told, a refusal is one of the auditor's, and an answer is live.
+pub fn a_lone_feeder_is_served_as_with_a_pass()
+    ensures submitted { (plan : Plan) (journals : List (List Entry)) (register : RegId) (edit : Edit) (receipt : Receipt)
+        → AreJournals plan journals → IsEnteredAlone plan journals register edit receipt
+        → IsSubmitted plan (pass_alone plan journals) register edit receipt }
+    ensures told { (plan : Plan) (journals : List (List Entry)) (register : RegId) (edit : Edit) (receipt : Receipt)
+        → AreJournals plan journals → IsEnteredAlone plan journals register edit receipt
+        → pass_alone plan (with_entry journals register edit receipt) ≡ entered (pass_alone plan journals) register edit receipt }
+    ensures refused { (plan : Plan) (journals : List (List Entry)) (register : ℕ) (fault : ShardFault)
+        → AreJournals plan journals → IsRefusalAlone plan register fault → IsRefusal plan (pass_alone plan journals) register fault }
+    ensures live { (plan : Plan) (journals : List (List Entry)) (register : ℕ) (answer : Answer)
+        → AreJournals plan journals → IsStanding plan register (journal_in journals (register % plan.shards)) answer
+        → IsLive plan (pass_alone plan journals) (pass_alone plan journals) register answer }
+{}
+
+/// The edits of a register in the journal of its shard are those that a lone feeder submitted for it, in their order: an
+/// edit that was entered comes after those of its register, and those of every other register are as before.
+pub fn a_lone_feeders_edits_are_as_submitted()
+    ensures own { (plan : Plan) (journals : List (List Entry)) (register : RegId) (edit : Edit) (receipt : Receipt)
+        → AreJournals plan journals → IsEnteredAlone plan journals register edit receipt
+        → edits_of register.0 (journal_in (with_entry journals register edit receipt) (register.0 % plan.shards))
+        ≡ edits_of register.0 (journal_in journals (register.0 % plan.shards)) ++ edit ∷ [] }
+    ensures others { (plan : Plan) (journals : List (List Entry)) (register : RegId) (edit : Edit) (receipt : Receipt) (other : ℕ)
+        → AreJournals plan journals → IsEnteredAlone plan journals register edit receipt → other ≢ register.0
+        → edits_of other (journal_in (with_entry journals register edit receipt) (other % plan.shards))
+        ≡ edits_of other (journal_in journals (other % plan.shards)) }
 {}
 
 /// The changes of verdicts in a journal are exactly its entries after which the verdict on their register is another

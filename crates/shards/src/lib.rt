@@ -1,4 +1,5 @@
-//! Shards: the registers of a tower under locks, with a journal of the edits that were answered in each.
+//! Shards: the registers of a tower, with a journal of the edits that were answered in each: under locks for several
+//! feeders, or as a lone feeder's own.
 //!
 //! An auditor is opened for a tower, a number of shards and a number of feeders. Register `r` is in
 //! shard `r` modulo the number of shards. Each feeder has a pass, with which it submits edits and asks
@@ -10,10 +11,18 @@
 //!     other.learn(pass.seen())?                                 // the other pass now knows of that entry
 //!     auditor.finish(passes)?                                   // the journals and the books
 //!
+//! A lone feeder needs no pass and no lock, and its journals are there in proofs alone:
+//!
+//!     let mut auditor = LoneAuditor::open(alloc, &tower, 2)?;
+//!     auditor.submit(&NoGate, RegId(0), &edit)?;                // number 0, Accepted { holds: true }
+//!     auditor.standing(&NoGate, RegId(0))?;                     // holds, 1 operation
+//!     auditor.close()                                           // the books, and the changes of verdicts
+//!
 //! Begin with `specs/Journal.antt`: a legal journal, in which each entry has the reply of its register as the
 //! entries before leave it. `specs/Pass.antt` has what a feeder knows, and which journals are in keeping with
 //! that; `specs/Steps.antt` what an edit and a question come to; `specs/Merge.antt` and `specs/Closing.antt`
-//! what is left at the end. `laws.rt` has what follows from these definitions.
+//! what is left at the end; `specs/Alone.antt` what a lone feeder's calls come to. `laws.rt` has what follows from these
+//! definitions.
 //!
 //! The value under a shard's lock is a `ShardState`: its invariant says that the journal is legal and each entry of
 //! one of the feeders, that each book is what the journal leaves of its register, and that each feeder's count
@@ -29,8 +38,10 @@ mod entry;
 mod fault;
 mod fitting;
 mod gate;
+mod ghost_entries;
 mod keeping;
 pub mod laws;
+mod lone_auditor;
 mod opening;
 mod parts;
 mod pass;
@@ -45,6 +56,7 @@ pub use closed::Closed;
 pub use entry::{Answer, Entry, NumberedEntry, Receipt, VerdictChange};
 pub use fault::ShardFault;
 pub use gate::{Gate, NoGate};
+pub use lone_auditor::LoneAuditor;
 pub use opening::Opening;
 pub use pass::Pass;
 pub use seen::Seen;

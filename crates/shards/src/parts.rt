@@ -2,7 +2,7 @@
 
 ghost use Rattle.std.specs.Prelude.{◌≡◌, ◌≤◌, All, vec_capacity, vec_len};
 ghost use Rattle.std.specs.List.Sorted.{IsNonDecreasingBy};
-ghost use Rattle.shards.specs.Shard.{IsShardOf};
+ghost use Rattle.shards.specs.Shard.{IsKeptShardOf};
 
 use crate::Opening;
 use crate::shard::Shard;
@@ -18,7 +18,7 @@ pub fn take_apart<'t, O: Opening>(
     requires empty { vec_len shards.old ≡ 0 }
     requires room { vec_len locks.old ≤ vec_capacity shards.old }
     ensures many { vec_len shards.new ≡ vec_len locks.old }
-    ensures kept { All (IsShardOf O.plan) shards.new.items }
+    ensures kept { All (IsKeptShardOf O.plan) shards.new.items }
     ensures in_order { IsNonDecreasingBy (λ shard. shard.at) shards.new.items }
     ensures empty { vec_len locks.new ≡ 0 }
     ensures room { vec_capacity locks.new ≡ vec_capacity locks.old }
@@ -37,7 +37,7 @@ pub fn put_together<'t, O: Opening>(
 )
     requires empty { vec_len locks.old ≡ 0 }
     requires room { vec_len shards.old ≤ vec_capacity locks.old }
-    requires kept { All (IsShardOf O.plan) shards.old.items }
+    requires kept { All (IsKeptShardOf O.plan) shards.old.items }
     ensures many { vec_len locks.new ≡ vec_len shards.old }
     ensures empty { vec_len shards.new ≡ 0 }
     ensures room { vec_capacity shards.new ≡ vec_capacity shards.old }

@@ -145,12 +145,13 @@ impl<'t> Pass<'t> {
         requires here { register.0 % O.plan.shards ≡ shard.old.at }
         requires known { register.0 < length O.plan.claims }
         requires pass { IsPassOf O.plan self.old }
-        requires keeping { IsInKeeping shard.old.at self.old shard.old.journal.items }
+        requires keeping { IsInKeeping shard.old.at self.old shard.old.entries }
         ensures kept { IsShardOf O.plan shard.new }
-        ensures journal { IfOk result (λ receipt. held_of shard.new ≡ record { at = shard.old.at; journal = shard.old.journal.items ++ entry_of self.old.feeder register edit.now receipt.reply ∷ [] }) }
-        ensures answered { IfOk result (λ receipt. IsAnswered O.plan shard.old.at shard.old.journal.items (entry_of self.old.feeder register edit.now receipt.reply)) }
-        ensures receipt { IfOk result (λ receipt. (receipt.shard ≡ shard.old.at) × (receipt.number ≡ length shard.old.journal.items)) }
-        ensures change { IfOk result (λ receipt. IsChangeIfAny O.plan shard.old.journal.items (entry_of self.old.feeder register edit.now receipt.reply) receipt.change) }
+        ensures keeps { shard.new.keeps ≡ shard.old.keeps }
+        ensures journal { IfOk result (λ receipt. held_of shard.new ≡ record { at = shard.old.at; journal = shard.old.entries ++ entry_of self.old.feeder register edit.now receipt.reply ∷ [] }) }
+        ensures answered { IfOk result (λ receipt. IsAnswered O.plan shard.old.at shard.old.entries (entry_of self.old.feeder register edit.now receipt.reply)) }
+        ensures receipt { IfOk result (λ receipt. (receipt.shard ≡ shard.old.at) × (receipt.number ≡ length shard.old.entries)) }
+        ensures change { IfOk result (λ receipt. IsChangeIfAny O.plan shard.old.entries (entry_of self.old.feeder register edit.now receipt.reply) receipt.change) }
         ensures told { IfOk result (λ receipt. self.new ≡ entered self.old register edit.now receipt) }
         ensures memory { IfErr result (λ fault. fault ≡ Memory) }
         ensures err { OnErr result ((held_of shard.new ≡ held_of shard.old) × (self.new ≡ self.old)) }

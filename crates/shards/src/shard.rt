@@ -10,38 +10,44 @@ ghost use Rattle.register_book.specs.Fault.{ids_of, values_shown};
 ghost use Rattle.register_book.specs.BookModel.{claimed_of};
 ghost use Rattle.shards.specs.Plan.{plan_of, claims_of};
 ghost use Rattle.shards.specs.Journal.{IsAnswered, count_by};
-ghost use Rattle.shards.specs.Shard.{AreBooks, IsVerdictChangeTo, IsShardOf, held_of};
+ghost use Rattle.shards.specs.Shard.{AreBooks, IsKeptShardOf, IsVerdictChangeTo, IsShardOf, held_of};
 ghost use Rattle.shards.specs.Steps.{IsStanding, entry_of};
 ghost use Rattle.shards.specs.VerdictChange.{IsChangeIfAny};
 
+use crate::ghost_entries::GhostEntries;
 use crate::{Answer, Entry, Opening, Receipt, ShardFault, VerdictChange};
 use intervals::{Edit, RegId, Value};
 use register_book::{Fault, RegisterBook, Witness};
-use std::alloc::Global;
+use std::alloc::{AllocError, Global};
 use tower_file::Tower;
 
-/// One shard. Book `k` is that of register `k * shards + at`. Count `f` is how many entries of the journal are by
-/// feeder `f`.
+/// One shard. Book `k` is that of register `k * shards + at`. Count `f` is how many entries are by feeder `f`. All entries
+/// are there in proofs alone; the journal has them where it is kept, else it is empty.
 #[derive(Drop)]
 pub struct Shard<'t> {
     pub at: u32,
     pub shards: u32,
+    pub many: u64,
     pub counts: Vec<usize>,
     pub books: Vec<RegisterBook<'t>>,
-    pub journal: Vec<Entry<'t>>,
     pub changes: Vec<VerdictChange>,
+    pub entries: GhostEntries<'t>,
+    pub keeps: bool,
+    pub journal: Vec<Entry<'t>>,
 }
 
 impl<'t> Shard<'t> {
-    /// A shard of a tower before any edit.
+    /// A shard of a tower before any edit, which keeps its journal or not.
     pub fn new(
         alloc: Global,
         tower: &Tower,
         at: u32,
         shards: u32,
         feeders: u32,
+        keeps: bool,
     ) -> Result<Self, ShardFault>
         requires { at < shards }
+        ensures keeps { IfOk result (λ shard. shard.keeps ≡ keeps) }
         ensures kept { IfOk result (λ shard. (name : ℕ) → IsShardOf (plan_of name tower.now shards feeders) shard) }
         ensures empty { IfOk result (λ shard. held_of shard ≡ record { at = at; journal = [] }) }
         ensures memory { IfErr result (λ fault. fault ≡ Memory) }
@@ -49,14 +55,17 @@ impl<'t> Shard<'t> {
         Ok(Shard {
             at,
             shards,
+            many: 0,
             counts: no_counts(alloc, feeders)?,
             books: open_books(alloc, tower, at, shards)?,
-            journal: Vec::new(alloc),
             changes: Vec::new(alloc),
+            entries: GhostEntries::new(),
+            keeps,
+            journal: Vec::new(alloc),
         })
     }
 
-    /// Carries an edit out, or has the register refuse it, and enters it in the journal. All growths come first.
+    /// Carries an edit out, or has the register refuse it, and enters it. All growths come first.
     pub fn enter<O: Opening>(
         &mut self,
         feeder: u32,
@@ -68,29 +77,36 @@ impl<'t> Shard<'t> {
         requires known { register.0 < length O.plan.claims }
         requires feeder { feeder < O.plan.feeders }
         ensures kept { IsShardOf O.plan self.new }
-        ensures journal { IfOk result (λ receipt. held_of self.new ≡ record { at = self.old.at; journal = self.old.journal.items ++ entry_of feeder register edit.now receipt.reply ∷ [] }) }
-        ensures answered { IfOk result (λ receipt. IsAnswered O.plan self.old.at self.old.journal.items (entry_of feeder register edit.now receipt.reply)) }
-        ensures receipt { IfOk result (λ receipt. (receipt.shard ≡ self.old.at) × (receipt.number ≡ length self.old.journal.items)) }
-        ensures change { IfOk result (λ receipt. IsChangeIfAny O.plan self.old.journal.items (entry_of feeder register edit.now receipt.reply) receipt.change) }
+        ensures keeps { self.new.keeps ≡ self.old.keeps }
+        ensures journal { IfOk result (λ receipt. held_of self.new ≡ record { at = self.old.at; journal = self.old.entries ++ entry_of feeder register edit.now receipt.reply ∷ [] }) }
+        ensures answered { IfOk result (λ receipt. IsAnswered O.plan self.old.at self.old.entries (entry_of feeder register edit.now receipt.reply)) }
+        ensures receipt { IfOk result (λ receipt. (receipt.shard ≡ self.old.at) × (receipt.number ≡ length self.old.entries)) }
+        ensures change { IfOk result (λ receipt. IsChangeIfAny O.plan self.old.entries (entry_of feeder register edit.now receipt.reply) receipt.change) }
         ensures memory { IfErr result (λ fault. fault ≡ Memory) }
         ensures err { OnErr result (held_of self.new ≡ held_of self.old) }
     {
-        let number = self.journal.len() as u64;
-        self.journal.reserve(1)?;
+        let number = self.many;
+        let Some(many) = number.checked_add(1) else {
+            return Err(ShardFault::Memory);
+        };
+        make_room(&mut self.journal, self.keeps)?;
         self.changes.reserve(1)?;
         let slot = (register.0 / self.shards) as usize;
         let book = &mut self.books[slot];
         let held = book.holds();
         let reply = book.apply(*edit)?;
         let change = change_to(book, register, number, held);
-        self.journal.push_reserved(Entry {
+        let entry = Entry {
             feeder,
             register,
             edit: *edit,
             reply,
-        });
+        };
+        self.entries.add(&entry);
+        keep(&mut self.journal, self.keeps, &entry);
         note(&mut self.changes, change);
         self.counts[feeder as usize] += 1;
+        self.many = many;
         Ok(Receipt {
             shard: self.at,
             number,
@@ -104,7 +120,7 @@ impl<'t> Shard<'t> {
         requires kept { IsShardOf O.plan self.now }
         requires here { register.0 % O.plan.shards ≡ self.now.at }
         requires known { register.0 < length O.plan.claims }
-        ensures { IsStanding O.plan register.0 self.now.journal.items result }
+        ensures { IsStanding O.plan register.0 self.now.entries result }
     {
         let slot = (register.0 / self.shards) as usize;
         let book = &self.books[slot];
@@ -114,7 +130,7 @@ impl<'t> Shard<'t> {
             operations: book.len() as u64,
             fault: fault_by(witness),
             witness,
-            number: self.journal.len() as u64,
+            number: self.many,
         }
     }
 
@@ -122,9 +138,35 @@ impl<'t> Shard<'t> {
     pub fn count<O: Opening>(&self, feeder: u32) -> u64
         requires kept { IsShardOf O.plan self.now }
         requires feeder { feeder < O.plan.feeders }
-        ensures { result ≡ count_by feeder self.now.journal.items }
+        ensures { result ≡ count_by feeder self.now.entries }
     {
         self.counts[feeder as usize] as u64
+    }
+
+    /// The journal, where it is kept.
+    pub fn kept<O: Opening>(&self) -> &[Entry<'t>]
+        requires { IsKeptShardOf O.plan self.now }
+        ensures { result.now ≡ self.now.entries }
+    {
+        self.journal.as_slice()
+    }
+}
+
+/// Makes room for an entry in a journal that is kept.
+fn make_room(journal: &mut Vec<Entry>, keeps: bool) -> Result<(), AllocError>
+    ensures same { journal.new.items ≡ journal.old.items }
+    ensures room { OnOk result (IsTrue keeps → vec_len journal.new < vec_capacity journal.new) }
+{
+    if keeps { journal.reserve(1) } else { Ok(()) }
+}
+
+/// Adds an entry to a journal that is kept, into room that is there for it.
+fn keep<'t>(journal: &mut Vec<Entry<'t>>, keeps: bool, entry: &Entry<'t>)
+    requires room { IsTrue keeps → vec_len journal.old < vec_capacity journal.old }
+    ensures { IsTrue keeps → journal.new.items ≡ journal.old.items ++ entry.now ∷ [] }
+{
+    if keeps {
+        journal.push_reserved(*entry);
     }
 }
 

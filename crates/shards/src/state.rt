@@ -3,7 +3,7 @@
 ghost use Rattle.std.specs.Prelude.{◌≡◌, ◌<◌, ◌%◌, ◌++◌, ◌∷◌, [], IfOk, IfErr, OnOk, OnErr, length};
 ghost use Rattle.shards.specs.Journal.{IsAnswered, IsJournalOf};
 ghost use Rattle.shards.specs.Pass.{IsInKeeping, IsPassOf, with_seen};
-ghost use Rattle.shards.specs.Shard.{IsShardOf, held_of};
+ghost use Rattle.shards.specs.Shard.{IsKeptShardOf, held_of};
 ghost use Rattle.shards.specs.Steps.{entered, IsQuestionRefusal, IsStanding, IsStateRefusal, entry_of, last_entry};
 ghost use Rattle.shards.specs.VerdictChange.{IsChangeIfAny};
 
@@ -24,18 +24,18 @@ pub struct ShardState<'t, O: Opening> {
 
 impl<'t, O: Opening> Model for ShardState<'t, O> {
     ghost use Rattle.shards.specs.Closing.{ShardModel};
-    ghost use Rattle.shards.specs.Shard.{IsShardOf, held_of};
+    ghost use Rattle.shards.specs.Shard.{IsKeptShardOf, held_of};
 
     ghost Value = { ShardModel };
 
     ghost view = { λ s. held_of s.shard };
 
-    ghost invariant = { λ s. IsShardOf O.plan s.shard };
+    ghost invariant = { λ s. IsKeptShardOf O.plan s.shard };
 }
 
 impl<'t, O: Opening> ShardState<'t, O> {
     pub(crate) fn new(shard: Shard<'t>) -> Self
-        requires { IsShardOf O.plan shard }
+        requires { IsKeptShardOf O.plan shard }
         ensures { result ≡ held_of shard.entry }
     {
         ShardState {
@@ -45,7 +45,7 @@ impl<'t, O: Opening> ShardState<'t, O> {
     }
 
     pub(crate) fn into_shard(self) -> Shard<'t>
-        ensures kept { IsShardOf O.plan result }
+        ensures kept { IsKeptShardOf O.plan result }
         ensures shard { held_of result ≡ self.entry }
     {
         let ShardState { shard, of: _ } = self;
@@ -65,7 +65,7 @@ impl<'t, O: Opening> ShardState<'t, O> {
         ensures journal { result.now ≡ self.now.journal }
         ensures of_shard { IsJournalOf O.plan self.now.at result.now }
     {
-        self.shard.journal.as_slice()
+        self.shard.kept::<O>()
     }
 
     /// Carries an edit out, or has the register refuse it, and enters it in the journal. S3 where the journal is not
@@ -107,7 +107,7 @@ impl<'t, O: Opening> ShardState<'t, O> {
         ensures err { OnErr result (pass.new ≡ pass.old) }
     {
         self.check(pass)?;
-        pass.see(self.shard.at, self.shard.journal.as_slice());
+        pass.see(self.shard.at, self.shard.kept::<O>());
         Ok(self.shard.answer::<O>(register))
     }
 
@@ -120,11 +120,11 @@ impl<'t, O: Opening> ShardState<'t, O> {
     {
         let shard = self.shard.at;
         let count = self.shard.count::<O>(pass.feeder());
-        match first_lack(pass, shard, self.shard.journal.as_slice(), count) {
+        match first_lack(pass, shard, self.shard.kept::<O>(), count) {
             Some(seen) => Err(ShardFault::JournalBehind {
                 shard,
                 seen,
-                found: self.shard.journal.len() as u64,
+                found: self.shard.many,
             }),
             None => Ok(()),
         }

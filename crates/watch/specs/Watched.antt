@@ -1,9 +1,8 @@
 -- What a watch wrote, and what it leaves.
-use Rattle.std.specs.Prelude.{◌≡◌, ◌<◌, ◌==◌, ◌%◌, ◌&&◌, ℕ, Bool, true, false, not, List, [], ◌∷◌, ◌++◌, Option, Some, None, All, filter_map, if◌then◌else◌}
+use Rattle.std.specs.Prelude.{◌≡◌, ◌<◌, ◌==◌, ◌%◌, ◌&&◌, ℕ, Bool, true, false, not, List, [], ◌∷◌, ◌++◌, Option, Some, None, All, filter_map, option_map, if◌then◌else◌}
 use Rattle.std.specs.List.{list_any, slice_get}
 use Rattle.std.specs.Io.KnownBytes.{Appends}
 use Rattle.tower_file.specs.Contents.{TowerModel}
-use Rattle.shards.specs.declared.entry.Entry.{Entry}
 use Rattle.shards.specs.declared.entry.VerdictChange.{VerdictChange}
 use Rattle.shards.specs.Closing.{ClosedShard, changes_of, journal_of}
 use Rattle.feeders.specs.declared.fault.RunFault.{RunFault}
@@ -62,7 +61,7 @@ AreTold n closed stopped notices = (at : ℕ) → at < n → IsToldOf stopped (c
 
 -- the journal of a closed shard has an entry of this number by this feeder
 abbrev pub HasEntryBy : List ClosedShard → ℕ → ℕ → ℕ → Type 0
-HasEntryBy closed at number feeder = (entry : Entry) × (slice_get (journal_of closed at) number ≡ Some entry) × (entry.feeder ≡ feeder)
+HasEntryBy closed at number feeder = option_map (λ entry. entry.feeder) (slice_get (journal_of closed at) number) ≡ Some feeder
 
 -- the entry of a change that is told is by the feeder that the notice names
 abbrev pub IsByEntry : ℕ → List ClosedShard → Notice → Type 0

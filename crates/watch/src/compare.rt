@@ -134,8 +134,8 @@ fn is_by_entry(notice: &Notice, closed: &Closed, shards: u32) -> bool
 fn is_by(closed: &Closed, at: u32, number: u64, feeder: u32) -> bool
     ensures { IsTrue result ↔ HasEntryBy closed.now at number feeder }
 {
-    match closed.journal(at).get(number as usize) {
-        Some(entry) => entry.feeder == feeder,
+    match closed.feeder_of(at, number) {
+        Some(by) => by == feeder,
         None => false,
     }
 }

@@ -1,10 +1,11 @@
 use Rattle.std.proofs.Common.{refl, arith}
+use Rattle.shards.proofs.KeptJournals.{are_of_plan}
 use Rattle.shards.proofs.Merged.{settled}
 use Rattle.shards.proofs.closing.closing_fault.Goals as goal
 
 pub returns-in_err-shard-clause-none : goal.returns-in_err-shard-clause-none
 returns-in_err-shard-clause-none g c = λ none.
-    settled _ c.args.passes.now c.args.shards.now c.requires.kept (c.in_default-first_unfit.ensures.none refl) (c.in_default-first_unfit.ensures.rises refl) (c.in_err-shard.ensures.none refl)
+    settled _ c.args.passes.now c.args.shards.now (are_of_plan _ c.args.shards.now c.requires.kept) (c.in_default-first_unfit.ensures.none refl) (c.in_default-first_unfit.ensures.rises refl) (c.in_err-shard.ensures.none refl)
 
 pub returns-clause-fault : goal.returns-clause-fault
 returns-clause-fault g c =

@@ -6,4 +6,4 @@ use Rattle.shards.proofs.closing.first_stranger.Given as goal
 
 -- a pass of its feeder submitted each entry of the shards before this one
 abbrev pub invariant-loop-place : goal.invariant-loop-place
-invariant-loop-place l = (place : ℕ) (shard : ShardModel) → place < l.place → slice_get (map held_of l.shards) place ≡ Some shard → AreOwned l.passes place shard.journal
+invariant-loop-place g l = (place : ℕ) (shard : ShardModel) → place < l.place → slice_get (map held_of l.shards) place ≡ Some shard → AreOwned l.passes place shard.journal

@@ -50,8 +50,8 @@ invariant_of-self-2 g c =
     noted f c.self.inside.own.items at c.index_mut.result.now c.reserve.new.self c.index_mut-2.result.now c.add.new.self known within c.index_mut.ensures.value
     (same_entries c.self.inside.feeder _ _ _ _ c.reserve.ensures.whole c.reserve.ensures.rows) c.index_mut-2.ensures.value c.add.ensures in
     rw (own, c.see.ensures)
-    (in_step_noted (map f c.self.inside.own.items) c.self.inside.seen.farthest at known c.args.shard.now.journal.items c.self.invariant (omega (arith, length-map c.self.inside.own.items f, within))
-    (subst (λ (pass : PassModel). IfSome (last_in (own_entries pass at)) (HasEntry c.args.shard.now.journal.items)) (sym c.self.view_is) c.requires.keeping.last)
+    (in_step_noted (map f c.self.inside.own.items) c.self.inside.seen.farthest at known c.args.shard.now.entries c.self.invariant (omega (arith, length-map c.self.inside.own.items f, within))
+    (subst (λ (pass : PassModel). IfSome (last_in (own_entries pass at)) (HasEntry c.args.shard.now.entries)) (sym c.self.view_is) c.requires.keeping.last)
     c.in_ok-receipt.ensures.receipt.1)
 
 pub returns-clause-told : goal.returns-clause-told

@@ -1,4 +1,4 @@
-use Rattle.std.proofs.Common.{◌/◌, ◌<◌, ◌∙◌, length, arith}
+use Rattle.std.proofs.Common.{◌/◌, ◌<◌, length, arith}
 use Rattle.shards.proofs.Kept.{slot_within, answer_by}
 use Rattle.shards.proofs.shard.Shard.answer.Goals as goal
 
@@ -10,5 +10,4 @@ index-book-requires g c =
 pub returns : goal.returns
 returns g c =
     answer_by g.O.Opening.plan c.args.self.now c.args.register.0 c.index-book.result.now _ c.requires.kept c.requires.here c.requires.known
-    c.index-book.ensures c.holds.ensures c.len.ensures c.witness-witness.ensures.witness c.witness-witness.ensures.none c.fault_by.ensures
-    (c.len-2.ensures ∙ c.args.self.now.journal.ok.0)
+    c.index-book.ensures c.holds.ensures c.len.ensures c.witness-witness.ensures.witness c.witness-witness.ensures.none c.fault_by.ensures c.requires.kept.many
