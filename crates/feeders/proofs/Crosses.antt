@@ -16,7 +16,7 @@ use Rattle.shards.specs.contracts.auditor.Auditor as Auditor
 use Rattle.shards.specs.declared.opening.Opening.{Ghosts}
 use Rattle.tower_file.proofs.tower.Tower.TheSendSync as tower
 use Rattle.tower_file.specs.contracts.tower.Tower as Tower
-use Rattle.feeders.specs.contracts.site.Site as Site
+use Rattle.feeders.specs.contracts.site.SharedSite as Site
 
 module _ (a w t : NamedLft) (O R G : RattleType) (g : Ghosts O.Denot) where
   pub site_sync : IsSync R → IsSync G → IsSync (Site.the_row a w t O R G g)

@@ -18,7 +18,7 @@ use Rattle.logs.specs.declared.log.Log.{Log}
 use Rattle.logs.specs.Doings.{entered_in}
 use Rattle.feeders.specs.declared.fault.RunFault.{RunFault}
 use Rattle.feeders.specs.Ending.{IsEndedAtClose, MayEnd, ended_by}
-use Rattle.feeders.specs.Progress.{AreFedBy, AreReadAndFed, IsFed}
+use Rattle.feeders.specs.Progress.{AreFedBy, AreReadAndFed, IsFed, IsReadAndFed}
 use Rattle.feeders.specs.Readers.{AreReadOf}
 use Rattle.logs.specs.Run.{EachNumbered, IsRun, IsTraced, plan_of_run}
 use Rattle.logs.specs.Start.{first_start}
@@ -78,6 +78,19 @@ run_of {X} of plan tower chosen shards traces opened outcomes passes logs closed
       traced = subst (λ (p : Plan). EachNumbered (IsTraced p tower chosen closed) 0 (map of traces) logs) same
           (subst (EachNumbered (IsTraced plan tower chosen closed) 0 (map of traces)) (sym logs_are) traced);
     }
+
+-- a run of a lone feeder: what was read of its reader was fed, and its registers were closed
+pub run_alone : (plan : Plan) (tower : TowerModel) (chosen : MomentField) (shards : ℕ) (left : Option (List ℕ)) (pass : PassModel) (log : Log) (logs : List Log) (closed : List ClosedShard)
+    → plan ≡ plan_of 0 tower shards 1 → IsReadAndFed (setting_of plan tower chosen (first_start 0)) left (record { pass = pass; log = log })
+    → logs ≡ log ∷ [] → IsClosed plan (pass ∷ []) closed
+    → (traces : List (List ℕ)) × AreReadOf (left ∷ []) logs traces × IsRun tower chosen shards traces closed logs
+run_alone plan tower chosen shards left pass log logs closed opening fed logs_are is =
+    let outcome : FeederOutcome = record { pass = pass; log = log } in
+    let traces : List (List ℕ) = fed.trace ∷ [] in (
+      traces,
+      subst (λ (ls : List Log). AreReadOf (left ∷ []) ls traces) (sym logs_are) (fed.of, tt),
+      run_of (λ (trace : List ℕ). trace) plan tower chosen shards traces (map (new_pass plan) (range_with_len 0 1)) (outcome ∷ []) (pass ∷ []) logs closed opening refl (fed.is_fed, tt) refl logs_are is,
+    )
 
 module _ {X : Type 0} (of : X → List ℕ) (plan : Plan) (tower : TowerModel) (chosen : MomentField) where
   as_many : (number : ℕ) (traces : List X) (outcomes : List FeederOutcome) → AreFedBy (λ feeder trace fed. IsFed (setting_of plan tower chosen (first_start feeder)) (of trace) fed) (map (new_pass plan) (range_with_len number (length traces))) traces outcomes → length outcomes ≡ length traces

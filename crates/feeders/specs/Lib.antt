@@ -8,6 +8,7 @@ pub mod Adding
 pub mod Ending
 pub mod Texts
 -- words of private clauses
+pub mod Access
 pub mod Progress
 pub mod Pending
 pub mod TailBuffer

@@ -11,9 +11,9 @@ ghost use Rattle.feeders.specs.Readers.{IsNotOfReading};
 ghost use Rattle.feeders.specs.Setting.{IsAtStart, setting_of};
 ghost use Rattle.logs.specs.Start.{Start};
 
+use crate::access::Access;
 use crate::fault::FeedFault;
 use crate::intake::Intake;
-use crate::outcome::FeederOutcome;
 use crate::pages::Pages;
 use crate::paging::Paging;
 use crate::pending::Pending;
@@ -25,7 +25,7 @@ use edn_reader::Splitter;
 use edn_reader::laws::{no_fault_so_far, told_so_far};
 use jepsen_form::MomentField;
 use logs::{BreakCode, Broken, Log};
-use shards::{Auditor, Opening, Pass};
+use shards::Opening;
 use std::alloc::Global;
 use std::marker::Model;
 use std::sync::Wait;
@@ -114,9 +114,8 @@ impl<'t> Feeder<'t> {
     pub fn feed<O: Opening, R: Wait, G: Watcher>(
         &mut self,
         rt: &R,
-        auditor: &Auditor<'t, O>,
         gate: &G,
-        pass: &mut Pass<'t>,
+        pass: &mut Access<'_, 't, O>,
         piece: &[u8],
     ) -> Result<(), FeedFault>
         requires some { 0 < O.plan.shards }
@@ -143,12 +142,13 @@ impl<'t> Feeder<'t> {
         let site = Site {
             rt,
             alloc: self.alloc,
-            auditor,
             gate,
             tower: self.tower,
             field: self.field,
         };
-        let page = self.paging.page_of(self.pages, rt, self.alloc, pass, piece);
+        let page = self
+            .paging
+            .page_of(self.pages, rt, self.alloc, pass.entries(), piece);
         match self.intake.take_piece(site, self.pages, pass, piece, page) {
             Ok(true) => {
                 self.state = FeedState::Open;
@@ -169,9 +169,8 @@ impl<'t> Feeder<'t> {
     pub fn end<O: Opening, R: Wait, G: Watcher>(
         &mut self,
         rt: &R,
-        auditor: &Auditor<'t, O>,
         gate: &G,
-        pass: &mut Pass<'t>,
+        pass: &mut Access<'_, 't, O>,
     ) -> Result<(), FeedFault>
         requires some { 0 < O.plan.shards }
         requires rest { self.old.state ≡ FeedState.Paused → CanGoOn [] self.old.intake }
@@ -196,7 +195,6 @@ impl<'t> Feeder<'t> {
         let site = Site {
             rt,
             alloc: self.alloc,
-            auditor,
             gate,
             tower: self.tower,
             field: self.field,
@@ -214,8 +212,8 @@ impl<'t> Feeder<'t> {
     /// Goes on with the last element of a trace whose end was taken, until its step is carried out.
     fn settle_last<O: Opening, R: Wait, G: Watcher>(
         &mut self,
-        site: Site<'_, '_, 't, O, R, G>,
-        pass: &mut Pass<'t>,
+        site: Site<'_, '_, R, G>,
+        pass: &mut Access<'_, 't, O>,
     ) -> Result<(), FeedFault>
         requires some { 0 < O.plan.shards }
         requires ending { self.old.state ≡ FeedState.Ending }
@@ -301,13 +299,13 @@ impl<'t> Feeder<'t> {
         self.state = FeedState::Ended;
     }
 
-    /// What the feeder leaves, given the pass that it was fed with: that pass and the log.
-    pub fn into_fed(self, pass: Pass<'t>) -> FeederOutcome<'t>
-        ensures { (result.pass ≡ pass.entry) × (result.log ≡ self.entry.intake.progress.log) }
+    /// What was noted.
+    pub fn into_log(self) -> Log<'t>
+        ensures { result ≡ self.entry.intake.progress.log }
     {
         let Feeder { intake, .. } = self;
         let Intake { progress, .. } = intake;
         let broken = progress.log.broken;
-        progress.end(pass, broken)
+        progress.into_log(broken)
     }
 }

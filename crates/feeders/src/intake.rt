@@ -18,6 +18,7 @@ ghost use Rattle.feeders.specs.Readers.{IsNotOfReading};
 ghost use Rattle.feeders.specs.Setting.{Setting, setting_of};
 ghost use Rattle.logs.specs.Start.{Start};
 
+use crate::access::Access;
 use crate::fault::{FeedFault, RunFault};
 use crate::next::take_element;
 use crate::pages::{Pages, part_of, text_on};
@@ -32,7 +33,7 @@ use intervals::Memory;
 use jepsen_form::laws::items_name_registers_of_the_tower;
 use logs::broken_by;
 use pairing::laws::steps_are_on_named_registers;
-use shards::{Opening, Pass};
+use shards::Opening;
 use std::sync::Wait;
 
 /// What is known of the bytes so far: the splitter after them, those that an element may still need, what their
@@ -47,9 +48,9 @@ pub struct Intake<'t> {
 
 impl<'t> Intake<'t> {
     /// Reads the element that waits to be read, if any, from its kept bytes, which are then dropped.
-    fn read_whole<O: Opening, R: Wait, G: Watcher>(
+    fn read_whole<R: Wait, G: Watcher>(
         &mut self,
-        site: Site<'_, '_, 't, O, R, G>,
+        site: Site<'_, '_, R, G>,
         pages: &'t Pages,
     ) -> Result<(), Memory>
         requires can { CanSettle self.old }
@@ -96,8 +97,8 @@ impl<'t> Intake<'t> {
     /// Carries out the step of the element that was paired, if one waits.
     fn finish_step<O: Opening, R: Wait, G: Watcher>(
         &mut self,
-        site: Site<'_, '_, 't, O, R, G>,
-        pass: &mut Pass<'t>,
+        site: Site<'_, '_, R, G>,
+        pass: &mut Access<'_, 't, O>,
     ) -> Result<(), RunFault>
         requires some { 0 < O.plan.shards }
         requires can { CanSettle self.old }
@@ -130,9 +131,9 @@ impl<'t> Intake<'t> {
     /// Goes on with the element that waits, if any, until its step is carried out.
     pub fn settle<O: Opening, R: Wait, G: Watcher>(
         &mut self,
-        site: Site<'_, '_, 't, O, R, G>,
+        site: Site<'_, '_, R, G>,
         pages: &'t Pages,
-        pass: &mut Pass<'t>,
+        pass: &mut Access<'_, 't, O>,
     ) -> Result<(), RunFault>
         requires some { 0 < O.plan.shards }
         requires can { CanSettle self.old }
@@ -158,9 +159,9 @@ impl<'t> Intake<'t> {
 
     /// Takes `front`, the prefix of a chunk with which an element ended that begins at the place `start`. The
     /// element then waits.
-    fn take_whole<'p, O: Opening, R: Wait, G: Watcher>(
+    fn take_whole<'p, R: Wait, G: Watcher>(
         &mut self,
-        site: Site<'_, '_, 't, O, R, G>,
+        site: Site<'_, '_, R, G>,
         pages: &'t Pages,
         front: &'p [u8],
         start: usize,
@@ -209,9 +210,9 @@ impl<'t> Intake<'t> {
     /// the trace broke.
     fn take_next<O: Opening, R: Wait, G: Watcher>(
         &mut self,
-        site: Site<'_, '_, 't, O, R, G>,
+        site: Site<'_, '_, R, G>,
         pages: &'t Pages,
-        pass: &mut Pass<'t>,
+        pass: &mut Access<'_, 't, O>,
         piece: &[u8],
         page: Option<&'t [u8]>,
     ) -> Result<Option<usize>, FeedFault>
@@ -275,9 +276,9 @@ impl<'t> Intake<'t> {
     /// false where it broke.
     pub fn take_piece<O: Opening, R: Wait, G: Watcher>(
         &mut self,
-        site: Site<'_, '_, 't, O, R, G>,
+        site: Site<'_, '_, R, G>,
         pages: &'t Pages,
-        pass: &mut Pass<'t>,
+        pass: &mut Access<'_, 't, O>,
         piece: &[u8],
         page: Option<&'t [u8]>,
     ) -> Result<bool, FeedFault>
@@ -317,9 +318,9 @@ impl<'t> Intake<'t> {
     /// Takes the end of the trace. An element that ends with it then waits.
     pub fn take_end<O: Opening, R: Wait, G: Watcher>(
         &mut self,
-        site: Site<'_, '_, 't, O, R, G>,
+        site: Site<'_, '_, R, G>,
         pages: &'t Pages,
-        pass: &mut Pass<'t>,
+        pass: &mut Access<'_, 't, O>,
     ) -> Result<(), RunFault>
         requires some { 0 < O.plan.shards }
         requires can { CanGoOn [] self.old }

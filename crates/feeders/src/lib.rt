@@ -12,6 +12,7 @@
 //! for them and noted, and what a run leaves; `noting` does and notes it. `laws` has what follows from these.
 #![tactic(auto)]
 
+mod access;
 mod fault;
 mod feeder;
 mod intake;
@@ -34,6 +35,7 @@ mod trace;
 mod watcher;
 mod whole;
 
+pub use access::Access;
 pub use fault::{FeedFault, RunFault};
 pub use feeder::Feeder;
 pub use pages::Pages;

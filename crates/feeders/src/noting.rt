@@ -7,6 +7,7 @@ ghost use Rattle.feeders.specs.Ending.{IsEndedBy, MayStop};
 ghost use Rattle.feeders.specs.declared.fault.RunFault.TheVariants.{Memory};
 ghost use Rattle.feeders.specs.Progress.{GoesOn, HasSameLines, IsKnownStep};
 
+use crate::access::Access;
 use crate::fault::RunFault;
 use crate::site::Site;
 use crate::watcher::{Placed, Watcher};
@@ -14,8 +15,8 @@ use intervals::{Edit, RegId};
 use logs::{Code, LeftOut, Line, Log, Notice, What};
 use pairing::{Step, about_edit};
 use register_book::Reply;
+use shards::Opening;
 use shards::laws::what_was_told_stays;
-use shards::{Opening, Pass};
 use std::alloc::AllocError;
 use std::sync::Wait;
 
@@ -23,8 +24,8 @@ use std::sync::Wait;
 /// is made first, since nothing may fail once an edit is entered.
 pub fn carry_out<'t, O: Opening, R: Wait, G: Watcher>(
     log: &mut Log<'t>,
-    site: Site<'_, '_, 't, O, R, G>,
-    pass: &mut Pass<'t>,
+    site: Site<'_, '_, R, G>,
+    pass: &mut Access<'_, 't, O>,
     place: u64,
     step: Option<Step<'t>>,
 ) -> Result<(), RunFault>
@@ -60,8 +61,8 @@ pub fn leave_out<O: Opening>(log: &mut Log, place: u64, left_out: LeftOut) -> Re
 /// Submits an edit, and notes a refusal by its register in the room that there is for it.
 fn submit<'t, O: Opening, R: Wait, G: Watcher>(
     log: &mut Log<'t>,
-    site: Site<'_, '_, 't, O, R, G>,
-    pass: &mut Pass<'t>,
+    site: Site<'_, '_, R, G>,
+    pass: &mut Access<'_, 't, O>,
     place: u64,
     register: RegId,
     edit: Edit<'t>,
@@ -75,7 +76,7 @@ fn submit<'t, O: Opening, R: Wait, G: Watcher>(
 {
     what_was_told_stays();
     let gate = Placed::new(site.gate, place);
-    let receipt = site.auditor.submit(site.rt, &gate, pass, register, edit)?;
+    let receipt = pass.submit(site.rt, &gate, register, &edit)?;
     if let Reply::Refused(refusal) = receipt.reply {
         let left_out = LeftOut {
             code: Code::Register(refusal),
@@ -97,8 +98,8 @@ fn submit<'t, O: Opening, R: Wait, G: Watcher>(
 /// Asks whether a register holds, and notes the answer in the room that there is for it. It takes no memory.
 fn ask<'t, O: Opening, R: Wait, G: Watcher>(
     log: &mut Log<'t>,
-    site: Site<'_, '_, 't, O, R, G>,
-    pass: &mut Pass<'t>,
+    site: Site<'_, '_, R, G>,
+    pass: &mut Access<'_, 't, O>,
     place: u64,
     register: RegId,
 ) -> Result<(), RunFault>
@@ -110,7 +111,7 @@ fn ask<'t, O: Opening, R: Wait, G: Watcher>(
     ensures fault { IfErr result (λ fault. IsEndedBy O.plan pass.old register.0 fault × (fault ≢ Memory)) }
 {
     what_was_told_stays();
-    let answer = site.auditor.standing(site.rt, site.gate, pass, register)?;
+    let answer = pass.standing(site.rt, site.gate, register)?;
     log.lines.push_reserved(Line {
         event: place,
         what: What::Answered(register, answer),

@@ -3,7 +3,6 @@
 ghost use Rattle.feeders.specs.Pending.{IsPageOf};
 
 use crate::pages::Pages;
-use shards::Pass;
 use std::alloc::Global;
 use std::sync::Wait;
 
@@ -14,9 +13,6 @@ const LONG: usize = 4_096;
 /// made since the long chunk before it began. So what is on pages and not lent grows with the entries, not with
 /// what is skipped.
 const BYTES_AN_ENTRY: u64 = 256;
-
-/// There are at most this many shards.
-const SHARDS: u32 = 64;
 
 /// The length in bytes of a feeder's last long chunk, 0 where there was none, and how many entries the feeder had
 /// submitted before it.
@@ -34,13 +30,14 @@ impl Paging {
         }
     }
 
-    /// The page of the next chunk; none where it is not put on one, or where memory for that is refused.
+    /// The page of the next chunk of a feeder that submitted so many entries; none where it is not put on one, or where
+    /// memory for that is refused.
     pub fn page_of<'t, R: Wait>(
         &mut self,
         pages: &'t Pages,
         rt: &R,
         alloc: Global,
-        pass: &Pass,
+        submitted: u64,
         piece: &[u8],
     ) -> Option<&'t [u8]>
         ensures { IsPageOf result piece.now }
@@ -48,7 +45,6 @@ impl Paging {
         if piece.len() < LONG {
             return None;
         }
-        let submitted = submitted_by(pass);
         let entries = submitted.saturating_sub(self.submitted);
         let is_dense = self.length == 0
             || piece.len() as u64 <= entries.saturating_mul(BYTES_AN_ENTRY);
@@ -61,13 +57,4 @@ impl Paging {
         }
         pages.push(rt, alloc, piece).ok()
     }
-}
-
-/// How many entries the feeder submitted, in all shards.
-fn submitted_by(pass: &Pass) -> u64 {
-    let mut count = 0u64;
-    for shard in 0..SHARDS {
-        count = count.saturating_add(pass.submitted(shard));
-    }
-    count
 }

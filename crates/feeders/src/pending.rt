@@ -19,7 +19,6 @@ use jepsen_form::laws::one_item;
 use jepsen_form::{Item, RefusedForm, Stage, read_item};
 use logs::LeftOut;
 use pairing::Step;
-use shards::Opening;
 use std::sync::Wait;
 
 /// What a feeder has of the element that ended last, as long as its step is not carried out.
@@ -43,8 +42,8 @@ pub struct Known<'p, 't> {
 }
 
 /// Reads an element whose text is on no page, and holds its item.
-pub fn read_pending<'t, O: Opening, R: Wait, G: Watcher>(
-    site: Site<'_, '_, 't, O, R, G>,
+pub fn read_pending<'t, R: Wait, G: Watcher>(
+    site: Site<'_, '_, R, G>,
     pages: &'t Pages,
     progress: &mut Progress<'t>,
     element: Element,
@@ -59,8 +58,8 @@ pub fn read_pending<'t, O: Opening, R: Wait, G: Watcher>(
 
 /// Holds the item of the element that ended last, which has this text. Where the item was not read yet, it is read
 /// here.
-pub fn hold_last<'t, 'p, O: Opening, R: Wait, G: Watcher>(
-    site: Site<'_, '_, 't, O, R, G>,
+pub fn hold_last<'t, 'p, R: Wait, G: Watcher>(
+    site: Site<'_, '_, R, G>,
     pages: &'t Pages,
     progress: &mut Progress<'t>,
     splitter: &Splitter,
@@ -88,8 +87,8 @@ pub fn hold_last<'t, 'p, O: Opening, R: Wait, G: Watcher>(
 /// Holds the item of an element with this text, which is lent from `page` where that is given. Else the text is
 /// put on a page of its own if its step lends it; if not, the element is paired at once, since its item cannot
 /// outlive the text.
-pub fn hold_item<'t, O: Opening, R: Wait, G: Watcher>(
-    site: Site<'_, '_, 't, O, R, G>,
+pub fn hold_item<'t, R: Wait, G: Watcher>(
+    site: Site<'_, '_, R, G>,
     pages: &'t Pages,
     progress: &mut Progress<'t>,
     item: Result<Item, RefusedForm>,

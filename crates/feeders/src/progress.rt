@@ -14,9 +14,9 @@ ghost use Rattle.feeders.specs.Setting.{IsAtStart};
 ghost use Rattle.logs.specs.Start.{Start};
 ghost use Rattle.logs.specs.Steps.{by_pairing};
 
+use crate::access::Access;
 use crate::fault::RunFault;
 use crate::noting::{carry_out, leave_out};
-use crate::outcome::FeederOutcome;
 use crate::site::Site;
 use crate::watcher::Watcher;
 use intervals::Memory;
@@ -24,7 +24,7 @@ use jepsen_form::{Item, RefusedForm};
 use logs::{Broken, Code, LeftOut, Log, Notice};
 use pairing::laws::a_refused_item_is_not_accepted;
 use pairing::{PairFault, Pairing, Step, gist_of_item};
-use shards::{Opening, Pass};
+use shards::Opening;
 use std::alloc::Global;
 use std::sync::Wait;
 
@@ -86,8 +86,8 @@ impl<'t> Progress<'t> {
     /// Carries out the step of the element that was paired last, or notes why it is refused.
     pub fn take_step<O: Opening, R: Wait, G: Watcher>(
         &mut self,
-        site: Site<'_, '_, 't, O, R, G>,
-        pass: &mut Pass<'t>,
+        site: Site<'_, '_, R, G>,
+        pass: &mut Access<'_, 't, O>,
         step: Result<Option<Step<'t>>, LeftOut>,
     ) -> Result<(), RunFault>
         requires some { 0 < O.plan.shards }
@@ -117,18 +117,14 @@ impl<'t> Progress<'t> {
         Ok(())
     }
 
-    /// What the feeder leaves, at the end of the trace or where it broke.
-    pub fn end(self, pass: Pass<'t>, broken: Option<Broken>) -> FeederOutcome<'t>
-        ensures pass { result.pass ≡ pass.entry }
-        ensures lines { result.log.lines ≡ self.entry.log.lines }
-        ensures broken { result.log.broken ≡ broken }
+    /// The log, at the end of the trace or where it broke.
+    pub fn into_log(self, broken: Option<Broken>) -> Log<'t>
+        ensures lines { result.lines ≡ self.entry.log.lines }
+        ensures broken { result.broken ≡ broken }
     {
-        FeederOutcome {
-            pass,
-            log: Log {
-                lines: self.log.lines,
-                broken,
-            },
+        Log {
+            lines: self.log.lines,
+            broken,
         }
     }
 }

@@ -1,19 +1,22 @@
 //! A run over several traces.
 
-ghost use Rattle.std.specs.Prelude.{◌≡◌, ◌≤◌, ℕ, List, All, IfErr, IfOk, length, map, vec_len};
+ghost use Rattle.std.specs.Prelude.{◌≡◌, ◌≤◌, ◌∷◌, [], ℕ, List, All, IfErr, IfOk, length, map, vec_len};
 ghost use Rattle.shards.specs.Plan.{plan_of};
 ghost use Rattle.shards.specs.Closing.{IsClosed};
 ghost use Rattle.feeders.specs.Ending.{IsEndedAtClose, MayEnd};
 ghost use Rattle.feeders.specs.Readers.{AreReadOf, IsNotOfReading};
 ghost use Rattle.logs.specs.Run.{IsRun};
 
+use crate::access::Access;
 use crate::fault::RunFault;
 use crate::pages::Pages;
 use crate::setup::Setup;
 use crate::several::{feed_all, read_all, read_in_turn, unzipped};
+use crate::stream::feed_access;
 use crate::watcher::Watcher;
 use logs::{Log, Run};
-use shards::{Auditor, Opening, Pass};
+use shards::{Auditor, LoneAuditor, Opening, Pass};
+use std::alloc::{AllocError, Global};
 use std::io::Read;
 use std::marker::Brand;
 use std::sync::Wait;
@@ -51,6 +54,9 @@ pub fn run_readers<'t, R: Threads + Wait + Sync, S: Read + Drop + Send, G: Watch
     ensures run { IfOk result (λ run. (traces : List (List ℕ)) × AreReadOf (map S.remaining readers.items) run.logs.items traces × IsRun setup.entry.tower.now setup.entry.field setup.entry.shards traces run.closed run.logs.items) }
     ensures fault { IfErr result (MayEnd (plan_of 0 setup.entry.tower.now setup.entry.shards (vec_len readers))) }
 {
+    if readers.len() == 1 {
+        return read_alone(setup, readers, pages, gate);
+    }
     read_in::<Brand, R, S, G>(setup, readers, pages, gate)
 }
 
@@ -67,7 +73,62 @@ pub fn run_in_turn<'t, R: Wait, S: Read + Drop, G: Watcher>(
     ensures run { IfOk result (λ run. (traces : List (List ℕ)) × AreReadOf (map S.remaining readers.items) run.logs.items traces × IsRun setup.entry.tower.now setup.entry.field setup.entry.shards traces run.closed run.logs.items) }
     ensures fault { IfErr result (MayEnd (plan_of 0 setup.entry.tower.now setup.entry.shards (vec_len readers))) }
 {
+    if readers.len() == 1 {
+        return read_alone(setup, readers, pages, gate);
+    }
     turn_in::<Brand, R, S, G>(setup, readers, pages, gate)
+}
+
+/// Feeds what the one reader gives to registers that the feeder has for itself: no thread, no lock and no kept journal.
+fn read_alone<'t, R: Wait, S: Read + Drop, G: Watcher>(
+    setup: Setup<'_, 't, R>,
+    readers: Vec<S>,
+    pages: &'t Pages,
+    gate: &G,
+) -> Result<Run<'t>, RunFault>
+    requires one { vec_len readers ≡ 1 }
+    requires shards { (1 ≤ setup.shards) × (setup.shards ≤ 64) }
+    ensures run { IfOk result (λ run. (traces : List (List ℕ)) × AreReadOf (map S.remaining readers.items) run.logs.items traces × IsRun setup.entry.tower.now setup.entry.field setup.entry.shards traces run.closed run.logs.items) }
+    ensures fault { IfErr result (MayEnd (plan_of 0 setup.entry.tower.now setup.entry.shards (vec_len readers))) }
+{
+    let mut readers = readers;
+    match readers.pop() {
+        Some(reader) => alone_in::<Brand, R, S, G>(setup, reader, pages, gate),
+        None => Err(RunFault::Memory),
+    }
+}
+
+/// `read_alone` for the plan of the opening `O`.
+fn alone_in<'t, O: Opening, R: Wait, S: Read + Drop, G: Watcher>(
+    setup: Setup<'_, 't, R>,
+    reader: S,
+    pages: &'t Pages,
+    gate: &G,
+) -> Result<Run<'t>, RunFault>
+    requires opening { O.plan ≡ plan_of 0 setup.tower.now setup.shards 1 }
+    requires shards { (1 ≤ setup.shards) × (setup.shards ≤ 64) }
+    ensures run { IfOk result (λ run. (traces : List (List ℕ)) × AreReadOf (S.remaining reader ∷ []) run.logs.items traces × IsRun setup.entry.tower.now setup.entry.field setup.entry.shards traces run.closed run.logs.items) }
+    ensures fault { IfErr result (MayEnd O.plan) }
+{
+    let auditor = LoneAuditor::<O>::open(setup.alloc, setup.tower, setup.shards)?;
+    let mut access = Access::alone(auditor);
+    let log = feed_access(setup.site(gate), pages, &mut access, reader)?;
+    let logs = one_log(setup.alloc, log)?;
+    match access.into_auditor() {
+        Some(auditor) => Ok(Run {
+            closed: auditor.close(),
+            logs,
+        }),
+        None => Err(RunFault::Memory),
+    }
+}
+
+fn one_log<'t>(alloc: Global, log: Log<'t>) -> Result<Vec<Log<'t>>, AllocError>
+    ensures { IfOk result (λ logs. logs.items ≡ log.entry ∷ []) }
+{
+    let mut logs = Vec::with_capacity(alloc, 1)?;
+    logs.push_reserved(log);
+    Ok(logs)
 }
 
 /// `run_readers` for the plan of the opening `O`.
@@ -86,7 +147,7 @@ fn read_in<
 {
     let feeders = readers.len() as u32;
     let (auditor, passes) = Auditor::<O>::open(setup.alloc, 0, setup.tower, setup.shards, feeders)?;
-    let outcomes = read_all(setup.site(&auditor, gate), pages, passes, readers)?;
+    let outcomes = read_all(setup.shared_site(&auditor, gate), pages, passes, readers)?;
     let (passes, logs) = unzipped(setup.alloc, outcomes)?;
     closed_run(auditor, passes, logs)
 }
@@ -106,7 +167,7 @@ fn run_in<'t, O: Opening + Send + Sync, R: Threads + Wait + Sync, G: Watcher>(
 {
     let feeders = traces.len() as u32;
     let (auditor, passes) = Auditor::<O>::open(setup.alloc, 0, setup.tower, setup.shards, feeders)?;
-    let outcomes = feed_all(setup.site(&auditor, gate), passes, traces)?;
+    let outcomes = feed_all(setup.shared_site(&auditor, gate), passes, traces)?;
     let (passes, logs) = unzipped(setup.alloc, outcomes)?;
     closed_run(auditor, passes, logs)
 }
@@ -126,7 +187,7 @@ fn turn_in<'t, O: Opening, R: Wait, S: Read + Drop, G: Watcher>(
 {
     let feeders = readers.len() as u32;
     let (auditor, passes) = Auditor::<O>::open(setup.alloc, 0, setup.tower, setup.shards, feeders)?;
-    let outcomes = read_in_turn(setup.site(&auditor, gate), pages, passes, readers)?;
+    let outcomes = read_in_turn(setup.shared_site(&auditor, gate), pages, passes, readers)?;
     let (passes, logs) = unzipped(setup.alloc, outcomes)?;
     closed_run(auditor, passes, logs)
 }

@@ -2,7 +2,7 @@
 
 ghost use Rattle.std.specs.Prelude.{◌≡◌};
 
-use crate::site::Site;
+use crate::site::{SharedSite, Site};
 use jepsen_form::MomentField;
 use shards::{Auditor, Opening};
 use std::alloc::Global;
@@ -21,19 +21,33 @@ pub struct Setup<'a, 'w, R> {
 }
 
 impl<'a, 'w, R> Setup<'a, 'w, R> {
-    /// What a feeder is lent, given the auditor of the run and its gate.
-    pub(crate) fn site<'t, O: Opening, G>(
+    /// What each of several feeders is lent, given the auditor of the run and its gate.
+    pub(crate) fn shared_site<'t, O: Opening, G>(
         self,
         auditor: &'a Auditor<'t, O>,
         gate: &'a G,
-    ) -> Site<'a, 'w, 't, O, R, G>
+    ) -> SharedSite<'a, 'w, 't, O, R, G>
+        ensures tower { result.tower.now ≡ self.entry.tower.now }
+        ensures field { result.field ≡ self.entry.field }
+    {
+        SharedSite {
+            rt: self.rt,
+            alloc: self.alloc,
+            auditor,
+            gate,
+            tower: self.tower,
+            field: self.field,
+        }
+    }
+
+    /// What a lone feeder is lent, given the gate of the run.
+    pub(crate) fn site<G>(self, gate: &'a G) -> Site<'a, 'w, R, G>
         ensures tower { result.tower.now ≡ self.entry.tower.now }
         ensures field { result.field ≡ self.entry.field }
     {
         Site {
             rt: self.rt,
             alloc: self.alloc,
-            auditor,
             gate,
             tower: self.tower,
             field: self.field,

@@ -11,7 +11,7 @@ ghost use Rattle.feeders.specs.Readers.{IsNotOfReading};
 use crate::fault::RunFault;
 use crate::outcome::FeederOutcome;
 use crate::pages::Pages;
-use crate::site::Site;
+use crate::site::SharedSite;
 use crate::stream::feed_reader;
 use crate::trace::feed_trace;
 use crate::watcher::Watcher;
@@ -25,7 +25,7 @@ use std::thread::{Threads, map_vec};
 /// Feeds each trace with its pass, by threads as they can be made. Where several feeders fail the answer is the fault
 /// of the one with the least number, after all have ended.
 pub fn feed_all<'t, O: Opening + Send + Sync, R: Threads + Wait + Sync, G: Watcher>(
-    site: Site<'_, '_, 't, O, R, G>,
+    site: SharedSite<'_, '_, 't, O, R, G>,
     passes: Vec<Pass<'t>>,
     traces: &[&'t [u8]],
 ) -> Result<Vec<FeederOutcome<'t>>, RunFault>
@@ -59,7 +59,7 @@ pub fn read_all<
     G: Watcher,
     S: Read + Drop + Send,
 >(
-    site: Site<'_, 't, 't, O, R, G>,
+    site: SharedSite<'_, 't, 't, O, R, G>,
     pages: &'t Pages,
     passes: Vec<Pass<'t>>,
     readers: Vec<S>,
@@ -71,7 +71,7 @@ pub fn read_all<
     ensures fed { IfOk result (λ outcomes. AreReadAndFed O.plan site.entry.tower.now site.entry.field passes.entry.items (map S.remaining readers.items) outcomes.items) }
     ensures fault { IfErr result (MayEnd O.plan) }
 {
-    let Site {
+    let SharedSite {
         rt,
         alloc,
         auditor,
@@ -88,7 +88,7 @@ pub fn read_all<
             ensures fed { IfOk result (λ fed. IsReadAndFed (setting_of O.plan tower.entry.now field (first_start pair.entry.0.feeder)) (S.remaining pair.entry.1) fed) }
             ensures fault { IfErr result (MayEnd O.plan) }
         {
-            let site = Site {
+            let site = SharedSite {
                 rt,
                 alloc,
                 auditor,
@@ -105,7 +105,7 @@ pub fn read_all<
 
 /// Feeds what each reader gives with its pass, on this thread alone, one after another.
 pub fn read_in_turn<'t, O: Opening, R: Wait, G: Watcher, S: Read + Drop>(
-    site: Site<'_, 't, 't, O, R, G>,
+    site: SharedSite<'_, 't, 't, O, R, G>,
     pages: &'t Pages,
     passes: Vec<Pass<'t>>,
     readers: Vec<S>,

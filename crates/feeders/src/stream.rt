@@ -8,13 +8,15 @@ ghost use Rattle.feeders.specs.Progress.{IsReadAndFed};
 ghost use Rattle.logs.specs.Start.{first_start};
 ghost use Rattle.feeders.specs.Setting.{setting_of};
 
+use crate::access::Access;
 use crate::fault::RunFault;
 use crate::feeder::Feeder;
-use crate::outcome::FeederOutcome;
+use crate::outcome::{FeederOutcome, outcome_of};
 use crate::pages::Pages;
-use crate::site::Site;
+use crate::site::{SharedSite, Site};
 use crate::source::Source;
 use crate::watcher::{Watcher, tell_end};
+use logs::Log;
 use shards::laws::what_was_told_stays;
 use shards::{Opening, Pass};
 use std::io::Read;
@@ -23,12 +25,11 @@ use std::sync::Wait;
 /// How many bytes are asked for in one read call.
 const PIECE: usize = 65_536;
 
-/// Reads a trace up to its end, to where it breaks or to where its reading breaks off, and carries its steps out in
-/// order, each as soon as its element has ended.
+/// Reads a trace with a pass, as `feed_access` does.
 pub fn feed_reader<'t, O: Opening, R: Wait, G: Watcher, S: Read + Drop>(
-    site: Site<'_, 't, 't, O, R, G>,
+    site: SharedSite<'_, 't, 't, O, R, G>,
     pages: &'t Pages,
-    mut pass: Pass<'t>,
+    pass: Pass<'t>,
     reader: S,
 ) -> Result<FeederOutcome<'t>, RunFault>
     requires some { 0 < O.plan.shards }
@@ -36,6 +37,26 @@ pub fn feed_reader<'t, O: Opening, R: Wait, G: Watcher, S: Read + Drop>(
     requires fresh { pass ≡ new_pass O.plan pass.feeder }
     requires known { pass.feeder < O.plan.feeders }
     ensures fed { IfOk result (IsReadAndFed (setting_of O.plan site.entry.tower.now site.entry.field (first_start pass.entry.feeder)) (S.remaining reader)) }
+    ensures fault { IfErr result (MayEnd O.plan) }
+{
+    let mut access = Access::with_pass(site.auditor, pass);
+    let log = feed_access(site.site(), pages, &mut access, reader)?;
+    outcome_of(access, log)
+}
+
+/// Reads a trace up to its end, to where it breaks or to where its reading breaks off, and carries its steps out in
+/// order, each as soon as its element has ended.
+pub fn feed_access<'t, O: Opening, R: Wait, G: Watcher, S: Read + Drop>(
+    site: Site<'_, 't, R, G>,
+    pages: &'t Pages,
+    pass: &mut Access<'_, 't, O>,
+    reader: S,
+) -> Result<Log<'t>, RunFault>
+    requires some { 0 < O.plan.shards }
+    requires of_tower { O.plan.claims ≡ claims_of site.tower.now }
+    requires fresh { pass.old ≡ new_pass O.plan pass.old.feeder }
+    requires known { pass.old.feeder < O.plan.feeders }
+    ensures fed { IfOk result (λ log. IsReadAndFed (setting_of O.plan site.entry.tower.now site.entry.field (first_start pass.old.feeder)) (S.remaining reader) (record { pass = pass.new; log = log })) }
     ensures fault { IfErr result (MayEnd O.plan) }
 {
     what_was_told_stays();
@@ -48,35 +69,29 @@ pub fn feed_reader<'t, O: Opening, R: Wait, G: Watcher, S: Read + Drop>(
         match source.next(buffer) {
             Ok(count) => {
                 if count == 0 {
-                    feeder.end(site.rt, site.auditor, site.gate, &mut pass)?;
-                    return Ok(close(site.gate, feeder, pass));
+                    feeder.end(site.rt, site.gate, pass)?;
+                    return Ok(close(site.gate, feeder, pass.feeder()));
                 }
                 let piece = &buffer[..count];
-                if let Err(failed) = feeder.feed(
-                    site.rt,
-                    site.auditor,
-                    site.gate,
-                    &mut pass,
-                    piece,
-                ) {
+                if let Err(failed) = feeder.feed(site.rt, site.gate, pass, piece) {
                     return Err(failed.fault);
                 }
                 if feeder.has_broken() {
-                    return Ok(close(site.gate, feeder, pass));
+                    return Ok(close(site.gate, feeder, pass.feeder()));
                 }
             }
             Err(code) => {
                 feeder.break_off(code);
-                return Ok(close(site.gate, feeder, pass));
+                return Ok(close(site.gate, feeder, pass.feeder()));
             }
         }
     }
 }
 
-/// Tells a watcher that the feeder's trace is over, and gives what the feeder leaves.
-fn close<'t, G: Watcher>(gate: &G, feeder: Feeder<'t>, pass: Pass<'t>) -> FeederOutcome<'t>
-    ensures { (result.pass ≡ pass.entry) × (result.log ≡ feeder.entry.intake.progress.log) }
+/// Tells a watcher that the feeder's trace is over, and gives what was noted.
+fn close<'t, G: Watcher>(gate: &G, feeder: Feeder<'t>, number: u32) -> Log<'t>
+    ensures { result ≡ feeder.entry.intake.progress.log }
 {
-    tell_end(gate, pass.feeder(), feeder.log().broken, feeder.elements());
-    feeder.into_fed(pass)
+    tell_end(gate, number, feeder.log().broken, feeder.elements());
+    feeder.into_log()
 }

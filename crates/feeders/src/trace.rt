@@ -9,24 +9,25 @@ ghost use Rattle.feeders.specs.Readers.{IsNotOfReading};
 ghost use Rattle.logs.specs.Start.{first_start};
 ghost use Rattle.feeders.specs.Setting.{setting_of};
 
+use crate::access::Access;
 use crate::fault::RunFault;
-use crate::outcome::FeederOutcome;
+use crate::outcome::{FeederOutcome, outcome_of};
 use crate::progress::Progress;
-use crate::site::Site;
+use crate::site::{SharedSite, Site};
 use crate::watcher::{Watcher, tell_end};
 use edn_reader::Reader;
 use jepsen_form::laws::items_name_registers_of_the_tower;
 use jepsen_form::read_item;
-use logs::broken_by;
+use logs::{Log, broken_by};
 use pairing::laws::steps_are_on_named_registers;
 use shards::laws::what_was_told_stays;
 use shards::{Opening, Pass};
 use std::sync::Wait;
 
-/// Reads a trace up to its end or to where it breaks, and carries its steps out in order.
+/// Reads a trace with a pass, as `feed_text` does.
 pub fn feed_trace<'t, O: Opening, R: Wait, G: Watcher>(
-    site: Site<'_, '_, 't, O, R, G>,
-    mut pass: Pass<'t>,
+    site: SharedSite<'_, '_, 't, O, R, G>,
+    pass: Pass<'t>,
     trace: &'t [u8],
 ) -> Result<FeederOutcome<'t>, RunFault>
     requires some { 0 < O.plan.shards }
@@ -35,6 +36,25 @@ pub fn feed_trace<'t, O: Opening, R: Wait, G: Watcher>(
     requires known { pass.feeder < O.plan.feeders }
     ensures fed { IfOk result (IsFed (setting_of O.plan site.entry.tower.now site.entry.field (first_start pass.entry.feeder)) trace.entry.now) }
     ensures by_text { IfOk result (λ fed. IsNotOfReading fed.log) }
+    ensures fault { IfErr result (MayEnd O.plan) }
+{
+    let mut access = Access::with_pass(site.auditor, pass);
+    let log = feed_text(site.site(), &mut access, trace)?;
+    outcome_of(access, log)
+}
+
+/// Reads a trace up to its end or to where it breaks, and carries its steps out in order.
+fn feed_text<'t, O: Opening, R: Wait, G: Watcher>(
+    site: Site<'_, '_, R, G>,
+    pass: &mut Access<'_, 't, O>,
+    trace: &'t [u8],
+) -> Result<Log<'t>, RunFault>
+    requires some { 0 < O.plan.shards }
+    requires of_tower { O.plan.claims ≡ claims_of site.tower.now }
+    requires fresh { pass.old ≡ new_pass O.plan pass.old.feeder }
+    requires known { pass.old.feeder < O.plan.feeders }
+    ensures fed { IfOk result (λ log. IsFed (setting_of O.plan site.entry.tower.now site.entry.field (first_start pass.old.feeder)) trace.entry.now (record { pass = pass.new; log = log })) }
+    ensures by_text { IfOk result IsNotOfReading }
     ensures fault { IfErr result (MayEnd O.plan) }
 {
     what_was_told_stays();
@@ -46,20 +66,20 @@ pub fn feed_trace<'t, O: Opening, R: Wait, G: Watcher>(
         match reader.next() {
             Ok(Some(element)) => {
                 let step = progress.pair(read_item(element, site.field, site.tower))?;
-                if let Err(fault) = progress.take_step(site, &mut pass, step) {
+                if let Err(fault) = progress.take_step(site, pass, step) {
                     return Err(fault);
                 }
             }
             Ok(None) => {
                 tell_end(site.gate, pass.feeder(), None, progress.place);
-                return Ok(progress.end(pass, None));
+                return Ok(progress.into_log(None));
             }
             Err(fault) => {
                 let Some(broken) = broken_by(fault) else {
                     return Err(RunFault::Memory);
                 };
                 tell_end(site.gate, pass.feeder(), Some(broken), progress.place);
-                return Ok(progress.end(pass, Some(broken)));
+                return Ok(progress.into_log(Some(broken)));
             }
         }
     }

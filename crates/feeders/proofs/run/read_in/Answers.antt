@@ -26,7 +26,7 @@ returns-clause-run g c =
     let lefts = map g.S.Read.remaining c.args.readers.items in
     let outcomes = c.in_ok-outcomes.outcomes.items in
     let logs = c.in_ok-passes.logs in
-    let read = read_of plan tower c.args.setup.field c.in_ok-auditor.passes.items lefts outcomes (rw (c.site.ensures.tower, c.site.ensures.field) at c.in_ok-outcomes.ensures.fed) in
+    let read = read_of plan tower c.args.setup.field c.in_ok-auditor.passes.items lefts outcomes (rw (c.shared_site.ensures.tower, c.shared_site.ensures.field) at c.in_ok-outcomes.ensures.fed) in
     let many = c.args.readers.ok.0 ∙ sym (length-map c.args.readers.items g.S.Read.remaining) ∙ sym read.many in
     ok_then c.closed_run.result c.closed_run.ensures.run (λ ended is.
     let run : IsRun tower c.args.setup.field c.args.setup.shards (map (λ (trace : List ℕ). trace) read.traces) ended.closed logs.items =
@@ -44,7 +44,7 @@ returns-clause-fault g c =
     let plan = g.O.Opening.plan in
     let lefts = map g.S.Read.remaining c.args.readers.items in
     let outcomes = c.in_ok-outcomes.outcomes.items in
-    let read = read_of plan c.args.setup.tower.now c.args.setup.field c.in_ok-auditor.passes.items lefts outcomes (rw (c.site.ensures.tower, c.site.ensures.field) at c.in_ok-outcomes.ensures.fed) in
+    let read = read_of plan c.args.setup.tower.now c.args.setup.field c.in_ok-auditor.passes.items lefts outcomes (rw (c.shared_site.ensures.tower, c.shared_site.ensures.field) at c.in_ok-outcomes.ensures.fed) in
     let many = c.args.readers.ok.0 ∙ sym (length-map c.args.readers.items g.S.Read.remaining) ∙ sym read.many in
     err_then c.closed_run.result c.closed_run.ensures.fault (λ fault is.
     may_end (λ (trace : List ℕ). trace) plan c.args.setup.tower.now c.args.setup.field read.traces c.in_ok-auditor.passes.items outcomes c.in_ok-passes.passes.items fault

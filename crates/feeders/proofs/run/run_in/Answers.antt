@@ -24,7 +24,7 @@ returns-clause-run g c =
     ok_then c.closed_run.result c.closed_run.ensures.run (λ run is.
     subst (λ (logs : Vec Log Global). IsRun tower c.args.setup.field c.args.setup.shards (map (λ trace. trace.now) c.args.traces.now) run.closed logs.items) (sym is.1)
     (run_of (λ trace. trace.now) g.O.Opening.plan tower c.args.setup.field c.args.setup.shards c.args.traces.now c.in_ok-auditor.passes.items c.in_ok-outcomes.outcomes.items c.in_ok-passes.passes.items
-    c.in_ok-passes.logs.items run.closed c.requires.opening c.in_ok-auditor.ensures.passes (rw (c.site.ensures.tower, c.site.ensures.field) at c.in_ok-outcomes.ensures.fed) c.in_ok-passes.ensures.passes c.in_ok-passes.ensures.logs is.0))
+    c.in_ok-passes.logs.items run.closed c.requires.opening c.in_ok-auditor.ensures.passes (rw (c.shared_site.ensures.tower, c.shared_site.ensures.field) at c.in_ok-outcomes.ensures.fed) c.in_ok-passes.ensures.passes c.in_ok-passes.ensures.logs is.0))
 
 pub returns-clause-by_text : goal.returns-clause-by_text
 returns-clause-by_text g c =
@@ -37,4 +37,4 @@ pub returns-clause-fault : goal.returns-clause-fault
 returns-clause-fault g c =
     err_then c.closed_run.result c.closed_run.ensures.fault (λ fault is.
     may_end (λ trace. trace.now) g.O.Opening.plan c.args.setup.tower.now c.args.setup.field c.args.traces.now c.in_ok-auditor.passes.items c.in_ok-outcomes.outcomes.items c.in_ok-passes.passes.items fault
-    (ap (λ (plan : Plan). plan.feeders) c.requires.opening) c.in_ok-auditor.ensures.passes (rw (c.site.ensures.tower, c.site.ensures.field) at c.in_ok-outcomes.ensures.fed) c.in_ok-passes.ensures.passes is)
+    (ap (λ (plan : Plan). plan.feeders) c.requires.opening) c.in_ok-auditor.ensures.passes (rw (c.shared_site.ensures.tower, c.shared_site.ensures.field) at c.in_ok-outcomes.ensures.fed) c.in_ok-passes.ensures.passes is)

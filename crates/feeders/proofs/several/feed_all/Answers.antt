@@ -4,7 +4,7 @@ use base.Fml.{Lft}
 use mir.Syntax.{named}
 use denote.Ref.{NamedLft, ShrRef}
 use denote.Param.Send.{IsSync, shr_sync}
-use Rattle.feeders.specs.contracts.site.Site as Site
+use Rattle.feeders.specs.contracts.site.SharedSite as Site
 use Rattle.std.proofs.lemmas.List.Elements.{All-from_recursion}
 use Rattle.feeders.specs.contracts.several.feed_all.{O-row, R-row, G-row}
 use Rattle.feeders.proofs.Crosses.{closure_sync, site_sync}

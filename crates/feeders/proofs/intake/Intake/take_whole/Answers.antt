@@ -54,7 +54,7 @@ returns-in-Ok-clause-pending g c plan begun items pass last is text at =
 -- the element was read
 module _ (g : Over) (c : In-Ok g) where
   abbrev setting : Setting
-  setting = setting_of g.O.Opening.plan c.args.site.tower.now c.args.site.field (first_start 0)
+  setting = setting_of (record { name = 0; shards = 1; feeders = 1; claims = [] }) c.args.site.tower.now c.args.site.field (first_start 0)
 
   read : IsReadAs c.args.site.tower.now c.args.site.field c.requires.can.element.0 c.args.self.now.progress c.hold_last.new.progress c.in-Ok.pending
   read =

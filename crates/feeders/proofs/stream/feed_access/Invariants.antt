@@ -4,7 +4,7 @@ use Rattle.feeders.specs.declared.feeder.FeedState.TheVariants.{Open}
 use Rattle.feeders.specs.declared.source.TheConstants.{CALL_LIMIT}
 use Rattle.logs.specs.Start.{first_start}
 use Rattle.feeders.proofs.Streaming.{HasStreamed}
-use Rattle.feeders.proofs.stream.feed_reader.Given as goal
+use Rattle.feeders.proofs.stream.feed_access.Given as goal
 
 abbrev pub invariant-loop-count : goal.invariant-loop-count
 invariant-loop-count g l = record {

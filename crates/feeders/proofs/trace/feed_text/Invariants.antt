@@ -4,7 +4,7 @@ use Rattle.feeders.specs.Progress.{IsAhead}
 use Rattle.logs.specs.Start.{first_start}
 use Rattle.feeders.specs.Setting.{setting_of}
 use Rattle.feeders.proofs.Reading.{HasRead}
-use Rattle.feeders.proofs.trace.feed_trace.Given as goal
+use Rattle.feeders.proofs.trace.feed_text.Given as goal
 
 abbrev pub invariant-loop-element : goal.invariant-loop-element
 invariant-loop-element g l = record {
