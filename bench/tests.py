@@ -7,7 +7,7 @@ from build import ROOT, below, compile, crates, link, lock, lower
 
 # Each crate of tests, a folder of tests/, with the libraries that it uses, lowest first.
 TESTS = {
-    "form_tests": ["edn_reader", "intervals", "jepsen_form", "pairing", "tower_file"],
+    "form_tests": ["edn_reader", "intervals", "jepsen_form", "merge_order", "pairing", "tower_file"],
     "judge_tests": ["intervals", "read_tree", "register_book", "safe_regular", "zone_tree", "zones"],
     "shard_tests": ["intervals", "register_book", "shards", "tower_file"],
     "feeder_tests": ["feeders", "intervals", "jepsen_form", "logs", "pairing", "shards", "tower_file"],

@@ -1,0 +1,3 @@
+-- words of the public clauses
+pub mod Order
+pub mod Worked
