@@ -14,6 +14,7 @@ ghost use Rattle.logs.specs.Start.{Start};
 use crate::access::Access;
 use crate::fault::FeedFault;
 use crate::intake::Intake;
+use crate::line_count::LineCount;
 use crate::pages::Pages;
 use crate::paging::Paging;
 use crate::pending::Pending;
@@ -61,6 +62,7 @@ pub struct Feeder<'t> {
     pages: &'t Pages,
     intake: Intake<'t>,
     paging: Paging,
+    lines: LineCount,
     state: FeedState,
 }
 
@@ -104,6 +106,7 @@ impl<'t> Feeder<'t> {
                 pending: Pending::Nothing,
             },
             paging: Paging::new(),
+            lines: LineCount::new(),
             state: FeedState::Open,
         }
     }
@@ -149,7 +152,11 @@ impl<'t> Feeder<'t> {
         let page = self
             .paging
             .page_of(self.pages, rt, self.alloc, pass.entries(), piece);
-        match self.intake.take_piece(site, self.pages, pass, piece, page) {
+        self.lines.want(gate.wants_lines());
+        match self
+            .intake
+            .take_piece(site, self.pages, pass, &mut self.lines, piece, page)
+        {
             Ok(true) => {
                 self.state = FeedState::Open;
                 Ok(())
@@ -202,7 +209,10 @@ impl<'t> Feeder<'t> {
         if self.is_ending() {
             return self.settle_last(site, pass);
         }
-        if let Err(fault) = self.intake.take_end(site, self.pages, pass) {
+        if let Err(fault) = self
+            .intake
+            .take_end(site, self.pages, pass, &mut self.lines)
+        {
             return Err(FeedFault { fault, used: 0 });
         }
         self.state = FeedState::Ending;
@@ -228,7 +238,10 @@ impl<'t> Feeder<'t> {
         ensures fault { IfErr result (λ failed. (start : Start) (bytes : List ℕ) → IsAtEnd (setting_of O.plan site.entry.tower.now site.entry.field start) bytes self.old.intake pass.old
             → O.plan.claims ≡ claims_of site.entry.tower.now → MayStop O.plan pass.new failed.fault) }
     {
-        match self.intake.settle(site, self.pages, pass) {
+        match self
+            .intake
+            .settle(site, self.pages, pass, self.lines.line())
+        {
             Ok(()) => {
                 self.state = FeedState::Ended;
                 Ok(())
@@ -271,6 +284,12 @@ impl<'t> Feeder<'t> {
         self.intake.progress.place
     }
 
+    /// The line, from 1, at which the element begins that ended last, or at which the trace broke; it means nothing where the
+    /// gate wants no lines.
+    pub fn line(&self) -> u64 {
+        self.lines.line()
+    }
+
     /// Whether the trace broke in what was fed.
     pub fn has_broken(&self) -> bool
         ensures { IsTrue result ↔ self.now.state ≡ FeedState.Broke }
@@ -292,6 +311,7 @@ impl<'t> Feeder<'t> {
     {
         no_fault_so_far();
         told_so_far();
+        self.lines.count(&[]);
         self.intake.progress.log.broken = Some(Broken {
             code,
             place: self.intake.splitter.taken(),

@@ -20,6 +20,7 @@ ghost use Rattle.logs.specs.Start.{Start};
 
 use crate::access::Access;
 use crate::fault::{FeedFault, RunFault};
+use crate::line_count::{LineCount, first_bytes};
 use crate::next::take_element;
 use crate::pages::{Pages, part_of, text_on};
 use crate::pending::{Known, Pending, hold_last, read_pending};
@@ -99,6 +100,7 @@ impl<'t> Intake<'t> {
         &mut self,
         site: Site<'_, '_, R, G>,
         pass: &mut Access<'_, 't, O>,
+        line: u64,
     ) -> Result<(), RunFault>
         requires some { 0 < O.plan.shards }
         requires can { CanSettle self.old }
@@ -120,7 +122,7 @@ impl<'t> Intake<'t> {
         items_name_registers_of_the_tower();
         steps_are_on_named_registers();
         if let Pending::Paired(step) = self.pending {
-            if let Err(fault) = self.progress.take_step(site, pass, step) {
+            if let Err(fault) = self.progress.take_step(site, pass, line, step) {
                 return Err(fault);
             }
             self.pending = Pending::Nothing;
@@ -134,6 +136,7 @@ impl<'t> Intake<'t> {
         site: Site<'_, '_, R, G>,
         pages: &'t Pages,
         pass: &mut Access<'_, 't, O>,
+        line: u64,
     ) -> Result<(), RunFault>
         requires some { 0 < O.plan.shards }
         requires can { CanSettle self.old }
@@ -154,7 +157,7 @@ impl<'t> Intake<'t> {
     {
         self.read_whole(site, pages)?;
         self.pair_lent()?;
-        self.finish_step(site, pass)
+        self.finish_step(site, pass, line)
     }
 
     /// Takes `front`, the prefix of a chunk with which an element ended that begins at the place `start`. The
@@ -213,6 +216,7 @@ impl<'t> Intake<'t> {
         site: Site<'_, '_, R, G>,
         pages: &'t Pages,
         pass: &mut Access<'_, 't, O>,
+        lines: &mut LineCount,
         piece: &[u8],
         page: Option<&'t [u8]>,
     ) -> Result<Option<usize>, FeedFault>
@@ -241,23 +245,28 @@ impl<'t> Intake<'t> {
             Ok(next) => next,
             Err(fault) => {
                 if let Some(broken) = broken_by(fault) {
+                    lines.count_to(&self.kept, piece, before, broken.place as usize);
                     self.progress.log.broken = Some(broken);
                     return Ok(None);
                 }
                 let used = self.splitter.taken() as usize - before;
                 let keep = self.splitter.keep_from() as usize;
                 self.kept.take(&piece[..used], keep);
+                lines.count_past(first_bytes(piece, used), before, keep);
                 let fault = RunFault::Memory;
                 return Err(FeedFault { fault, used });
             }
         };
         let used = next.taken.used;
         let Some((start, _)) = next.taken.whole else {
-            self.kept.take(piece, self.splitter.keep_from() as usize);
+            let open = self.splitter.keep_from() as usize;
+            self.kept.take(piece, open);
+            lines.count_past(piece, before, open);
             return Ok(Some(used));
         };
         let front = &piece[..used];
         let start = start as usize;
+        lines.count_to(&self.kept, front, before, start);
         let known = Known {
             page: text_on(page, before, start, used),
             item: next.item,
@@ -266,7 +275,7 @@ impl<'t> Intake<'t> {
             let fault = RunFault::from(memory);
             return Err(FeedFault { fault, used });
         }
-        match self.settle(site, pages, pass) {
+        match self.settle(site, pages, pass, lines.line()) {
             Ok(()) => Ok(Some(used)),
             Err(fault) => Err(FeedFault { fault, used }),
         }
@@ -279,6 +288,7 @@ impl<'t> Intake<'t> {
         site: Site<'_, '_, R, G>,
         pages: &'t Pages,
         pass: &mut Access<'_, 't, O>,
+        lines: &mut LineCount,
         piece: &[u8],
         page: Option<&'t [u8]>,
     ) -> Result<bool, FeedFault>
@@ -295,13 +305,13 @@ impl<'t> Intake<'t> {
         ensures fault { IfErr result (λ failed. (start : Start) (bytes : List ℕ) → HasFed (setting_of O.plan site.entry.tower.now site.entry.field start) bytes piece.now self.old pass.old
             → O.plan.claims ≡ claims_of site.entry.tower.now → MayStop O.plan pass.new failed.fault) }
     {
-        if let Err(fault) = self.settle(site, pages, pass) {
+        if let Err(fault) = self.settle(site, pages, pass, lines.line()) {
             return Err(FeedFault { fault, used: 0 });
         }
         let mut at = 0;
         while at < piece.len() {
             let rest = part_of(page, at, piece.len());
-            match self.take_next(site, pages, pass, &piece[at..], rest) {
+            match self.take_next(site, pages, pass, lines, &piece[at..], rest) {
                 Ok(Some(used)) => at += used,
                 Ok(None) => return Ok(false),
                 Err(failed) => {
@@ -321,6 +331,7 @@ impl<'t> Intake<'t> {
         site: Site<'_, '_, R, G>,
         pages: &'t Pages,
         pass: &mut Access<'_, 't, O>,
+        lines: &mut LineCount,
     ) -> Result<(), RunFault>
         requires some { 0 < O.plan.shards }
         requires can { CanGoOn [] self.old }
@@ -336,12 +347,14 @@ impl<'t> Intake<'t> {
             → O.plan.claims ≡ claims_of site.entry.tower.now → MayStop O.plan pass.new fault) }
     {
         each_is_element();
-        if let Err(fault) = self.settle(site, pages, pass) {
+        if let Err(fault) = self.settle(site, pages, pass, lines.line()) {
             return Err(fault);
         }
+        let at = self.splitter.taken() as usize;
         match self.splitter.end() {
             Ok(None) => Ok(()),
             Ok(Some((start, _))) => {
+                lines.count_to(&self.kept, &[], at, start as usize);
                 self.pending = Pending::Whole(start as usize);
                 Ok(())
             }
@@ -349,6 +362,7 @@ impl<'t> Intake<'t> {
                 let Some(broken) = broken_by(fault) else {
                     return Err(RunFault::Memory);
                 };
+                lines.count_to(&self.kept, &[], at, broken.place as usize);
                 self.progress.log.broken = Some(broken);
                 Ok(())
             }

@@ -17,6 +17,7 @@ mod fault;
 mod feeder;
 mod intake;
 pub mod laws;
+mod line_count;
 mod next;
 mod noting;
 mod outcome;

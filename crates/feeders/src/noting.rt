@@ -20,13 +20,14 @@ use shards::laws::what_was_told_stays;
 use std::alloc::AllocError;
 use std::sync::Wait;
 
-/// Carries out the step of the element at `place`, where it has one, and notes a refusal or an answer. Room for the line
+/// Carries out the step of the element at `place`, which begins at `line`, where it has one, and notes a refusal or an answer. Room for the line
 /// is made first, since nothing may fail once an edit is entered.
 pub fn carry_out<'t, O: Opening, R: Wait, G: Watcher>(
     log: &mut Log<'t>,
     site: Site<'_, '_, R, G>,
     pass: &mut Access<'_, 't, O>,
     place: u64,
+    line: u64,
     step: Option<Step<'t>>,
 ) -> Result<(), RunFault>
     requires some { 0 < O.plan.shards }
@@ -40,7 +41,7 @@ pub fn carry_out<'t, O: Opening, R: Wait, G: Watcher>(
     };
     log.lines.reserve(1)?;
     match step {
-        Step::Edit(register, edit) => submit(log, site, pass, place, register, edit),
+        Step::Edit(register, edit) => submit(log, site, pass, place, line, register, edit),
         Step::Ask(register) => ask(log, site, pass, place, register),
     }
 }
@@ -64,6 +65,7 @@ fn submit<'t, O: Opening, R: Wait, G: Watcher>(
     site: Site<'_, '_, R, G>,
     pass: &mut Access<'_, 't, O>,
     place: u64,
+    line: u64,
     register: RegId,
     edit: Edit<'t>,
 ) -> Result<(), RunFault>
@@ -75,7 +77,7 @@ fn submit<'t, O: Opening, R: Wait, G: Watcher>(
     ensures fault { IfErr result (IsEndedBy O.plan pass.old register.0) }
 {
     what_was_told_stays();
-    let gate = Placed::new(site.gate, place);
+    let gate = Placed::new(site.gate, place, line);
     let receipt = pass.submit(site.rt, &gate, register, &edit)?;
     if let Reply::Refused(refusal) = receipt.reply {
         let left_out = LeftOut {
@@ -89,6 +91,7 @@ fn submit<'t, O: Opening, R: Wait, G: Watcher>(
         site.gate.told(Notice::Refused {
             feeder: pass.feeder(),
             place,
+            line,
             left_out,
         });
     }

@@ -83,11 +83,12 @@ impl<'t> Progress<'t> {
         }
     }
 
-    /// Carries out the step of the element that was paired last, or notes why it is refused.
+    /// Carries out the step of the element that was paired last, which begins at `line`, or notes why it is refused.
     pub fn take_step<O: Opening, R: Wait, G: Watcher>(
         &mut self,
         site: Site<'_, '_, R, G>,
         pass: &mut Access<'_, 't, O>,
+        line: u64,
         step: Result<Option<Step<'t>>, LeftOut>,
     ) -> Result<(), RunFault>
         requires some { 0 < O.plan.shards }
@@ -102,12 +103,13 @@ impl<'t> Progress<'t> {
         ensures fault { IfErr result (λ fault. IsPassOf O.plan pass.old → IsKnownStep O.plan step.entry → MayStop O.plan pass.new fault) }
     {
         match step {
-            Ok(step) => carry_out(&mut self.log, site, pass, self.place, step)?,
+            Ok(step) => carry_out(&mut self.log, site, pass, self.place, line, step)?,
             Err(left_out) => {
                 leave_out::<O>(&mut self.log, self.place, left_out)?;
                 site.gate.told(Notice::Refused {
                     feeder: pass.feeder(),
                     place: self.place,
+                    line,
                     left_out,
                 });
             }

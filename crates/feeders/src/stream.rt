@@ -92,6 +92,7 @@ pub fn feed_access<'t, O: Opening, R: Wait, G: Watcher, S: Read + Drop>(
 fn close<'t, G: Watcher>(gate: &G, feeder: Feeder<'t>, number: u32) -> Log<'t>
     ensures { result ≡ feeder.entry.intake.progress.log }
 {
-    tell_end(gate, number, feeder.log().broken, feeder.elements());
+    let broken = feeder.log().broken;
+    tell_end(gate, number, broken, feeder.line(), feeder.elements());
     feeder.into_log()
 }

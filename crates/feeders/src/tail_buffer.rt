@@ -3,6 +3,7 @@
 ghost use Rattle.std.specs.Prelude.{◌≡◌, ◌+◌, ◌-◌, ◌≤◌, ◌<◌, ◌^◌, ◌++◌, List, [], ℕ, length, drop, vec_len, vec_capacity, OnOk, OnErr};
 ghost use Rattle.feeders.specs.TailBuffer.{AreLastBytes};
 
+use crate::line_count::first_bytes;
 use std::alloc::{AllocError, Global};
 
 /// The bytes that were taken so far, from the place `from` on.
@@ -47,6 +48,11 @@ impl TailBuffer {
         ensures { result.now ≡ drop (start - self.now.from) self.now.bytes.items }
     {
         &self.bytes[start - self.from..]
+    }
+
+    /// The bytes that are kept before the place `end`.
+    pub fn front(&self, end: usize) -> &[u8] {
+        first_bytes(self.bytes.as_slice(), end.saturating_sub(self.from))
     }
 
     /// Takes a chunk, for which there is room. Bytes before the place `keep` are dropped, but only where `keep` is

@@ -11,6 +11,7 @@ ghost use Rattle.feeders.specs.Setting.{setting_of};
 
 use crate::access::Access;
 use crate::fault::RunFault;
+use crate::line_count::LineCount;
 use crate::outcome::{FeederOutcome, outcome_of};
 use crate::progress::Progress;
 use crate::site::{SharedSite, Site};
@@ -62,25 +63,46 @@ fn feed_text<'t, O: Opening, R: Wait, G: Watcher>(
     steps_are_on_named_registers();
     let mut reader = Reader::new(site.alloc, trace);
     let mut progress = Progress::new(site.alloc, pass.feeder());
+    let mut lines = LineCount::new();
+    lines.want(site.gate.wants_lines());
+    let mut counted = 0;
     loop {
         match reader.next() {
             Ok(Some(element)) => {
+                let (start, _) = element.span();
+                lines.count(between(trace, counted, start));
+                counted = start;
                 let step = progress.pair(read_item(element, site.field, site.tower))?;
-                if let Err(fault) = progress.take_step(site, pass, step) {
+                if let Err(fault) = progress.take_step(site, pass, lines.line(), step) {
                     return Err(fault);
                 }
             }
             Ok(None) => {
-                tell_end(site.gate, pass.feeder(), None, progress.place);
+                tell_end(site.gate, pass.feeder(), None, lines.line(), progress.place);
                 return Ok(progress.into_log(None));
             }
             Err(fault) => {
                 let Some(broken) = broken_by(fault) else {
                     return Err(RunFault::Memory);
                 };
-                tell_end(site.gate, pass.feeder(), Some(broken), progress.place);
+                lines.count(between(trace, counted, broken.place as usize));
+                tell_end(
+                    site.gate,
+                    pass.feeder(),
+                    Some(broken),
+                    lines.line(),
+                    progress.place,
+                );
                 return Ok(progress.into_log(Some(broken)));
             }
         }
+    }
+}
+
+/// The bytes from one place up to another; none where there are no such bytes.
+fn between(bytes: &[u8], from: usize, to: usize) -> &[u8] {
+    match bytes.get(from..to) {
+        Some(part) => part,
+        None => &[],
     }
 }

@@ -103,8 +103,8 @@ module _ (g : Over) (c : After-take-in_default-whole g) where
       let roomed = c.make_room.ensures.kept in
       takes_all piece c.in-Ok.next.taken.used old kept c.in-Ok.ensures.counted takes c.requires.can
       (λ taken held. c.take-in_default-whole.ensures.holds taken (holds_same taken old.kept c.make_room.new.self roomed.0 roomed.1 held))
-      (λ low. subst (λ (n : ℕ). c.take-in_default-whole.new.self.from ≤ n) c.keep_from.ensures (c.take-in_default-whole.ensures.low (omega (arith, low, c.keep_from.ensures, roomed.0))))
-      (let_go old.kept c.make_room.new.self c.take-in_default-whole.new.self c.keep_from.result (length piece) piece c.keep_from.ensures roomed.0 roomed.1 refl c.take-in_default-whole.ensures.let_go)
+      (λ low. subst (λ (n : ℕ). c.take-in_default-whole.new.self.from ≤ n) c.keep_from-open.ensures (c.take-in_default-whole.ensures.low (omega (arith, low, c.keep_from-open.ensures, roomed.0))))
+      (let_go old.kept c.make_room.new.self c.take-in_default-whole.new.self c.keep_from-open.result (length piece) piece c.keep_from-open.ensures roomed.0 roomed.1 refl c.take-in_default-whole.ensures.let_go)
       c.requires.settled refl c.requires.settled c.requires.fits
 
 pub returns-in_default-whole-clause-used : goal.returns-in_default-whole-clause-used
