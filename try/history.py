@@ -403,8 +403,9 @@ def of_items(items):
     trace = object.__new__(Trace)
     trace.items, trace.bytes = [], b""
     for item in items:
+        starts = len(trace.bytes)
         trace.bytes += item["text"] + b"\n"
-        trace.items.append(dict(item, ends=len(trace.bytes) - 1))
+        trace.items.append(dict(item, starts=starts, ends=len(trace.bytes) - 1))
     return trace
 
 

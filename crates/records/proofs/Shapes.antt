@@ -236,15 +236,14 @@ holders_are : {depth : ℕ} (holders : List Holder) → AreValues depth (map hol
 holders_are [] = no_value
 holders_are (holder ∷ holders) = more_values (alone (holder_symbol holder) (whole_holder holder)) (holders_are holders)
 
-refused_is : {depth : ℕ} (feeder event : ℕ) (code : Code) → IsRecord (suc (suc depth)) (refused_symbols feeder event code)
-unfolding refused_symbols refusal_symbols type_symbols place_symbols word_symbols list_symbols end_symbols
-refused_is {depth} feeder event code =
-    subst (λ (tail : List Symbol). IsRecord (suc (suc depth)) (begin_record ∷ key (codes "t") ∷ word (codes "refused") ∷ key (codes "id") ∷ place feeder event ∷ key (codes "code") ∷ word (refused_code code) ∷ key (codes "with") ∷ begin_list ∷ tail))
-    (append_assoc (map holder_symbol (met_by code)) (end_list ∷ []) (end_record ∷ []))
-    (between
+refused_is : {depth : ℕ} (feeder event line : ℕ) (code : Code) → IsRecord (suc (suc depth)) (refused_symbols feeder event line code)
+unfolding refused_symbols refusal_symbols type_symbols place_symbols word_symbols list_symbols number_symbols
+refused_is feeder event line code =
+    between
     (field_is (codes "t") refl (word (codes "refused")) refl
     (field_is (codes "id") refl (place feeder event) refl
-    (field_is (codes "code") refl (word (refused_code code)) (whole_code code) (last_list_is (codes "with") refl (holders_are (met_by code)))))))
+    (field_is (codes "code") refl (word (refused_code code)) (whole_code code)
+    (more_fields (codes "with") refl (listed (holders_are (met_by code))) (field_is (codes "line") refl (number (decimal line)) (whole_number line) no_field)))))
 
 met_are : {depth : ℕ} (places : PlacesModel) (holders : List Holder) → AreValues (suc depth) (flat_map (holder_record places) holders)
 met_are places [] = no_value
@@ -275,13 +274,14 @@ answer_is places feeder event name holds operations =
     (field_is (codes "register") refl (text name) refl
     (field_is (codes "holds") refl (flag holds) refl (field_is (codes "operations") refl (number (decimal operations)) (whole_number operations) (spot_fields (located places feeder event) no_field))))))
 
-broken_is : {depth : ℕ} (feeder : ℕ) (broken : Broken) → IsRecord (suc depth) (broken_symbols feeder broken)
+broken_is : {depth : ℕ} (feeder : ℕ) (broken : Broken) (line : ℕ) → IsRecord (suc depth) (broken_symbols feeder broken line)
 unfolding broken_symbols break_symbols type_symbols number_symbols word_symbols
-broken_is feeder broken =
+broken_is feeder broken line =
     between
     (field_is (codes "t") refl (word (codes "broken")) refl
     (field_is (codes "trace") refl (number (decimal feeder)) (whole_number feeder)
-    (field_is (codes "code") refl (word (break_code_of broken.code)) (whole_break broken.code) (field_is (codes "byte") refl (number (decimal broken.place)) (whole_number broken.place) no_field))))
+    (field_is (codes "code") refl (word (break_code_of broken.code)) (whole_break broken.code)
+    (field_is (codes "byte") refl (number (decimal broken.place)) (whole_number broken.place) (field_is (codes "line") refl (number (decimal line)) (whole_number line) no_field)))))
 
 placed_break_is : {depth : ℕ} (places : PlacesModel) (feeder : ℕ) (broken : Broken) → IsRecord (suc depth) (placed_break places feeder broken)
 unfolding placed_break break_symbols type_symbols number_symbols word_symbols
@@ -440,23 +440,25 @@ optional_is : {depth : ℕ} (fault : Option Fault) → IsOneValue (suc depth) (o
 optional_is None = alone nothing refl
 optional_is (Some fault) = nested (ids_are fault)
 
-regrouped_end : (fault rests : List Symbol) (left : Symbol)
-    → (fault ++ (key (codes "left_out") ∷ left ∷ key (codes "rests_on") ∷ begin_list ∷ (rests ++ end_list ∷ []))) ++ end_record ∷ []
-    ≡ fault ++ (key (codes "left_out") ∷ left ∷ key (codes "rests_on") ∷ begin_list ∷ (rests ++ end_list ∷ end_record ∷ []))
-regrouped_end fault rests left = simp append_assoc
+regrouped_end : (fault rests : List Symbol) (line left : Symbol)
+    → (fault ++ (key (codes "line") ∷ line ∷ key (codes "left_out") ∷ left ∷ key (codes "rests_on") ∷ begin_list ∷ (rests ++ end_list ∷ []))) ++ end_record ∷ []
+    ≡ (fault ++ key (codes "line") ∷ line ∷ []) ++ (key (codes "left_out") ∷ left ∷ key (codes "rests_on") ∷ begin_list ∷ (rests ++ end_list ∷ end_record ∷ []))
+regrouped_end fault rests line left = simp append_assoc
 
-change_is : {depth : ℕ} (name : List ℕ) (feeder event : ℕ) (change : VerdictChange) (left_out rests_on : List (ℕ × ℕ)) → IsRecord (suc (suc depth)) (change_symbols name feeder event change ++ doubt_symbols left_out rests_on)
+change_is : {depth : ℕ} (name : List ℕ) (feeder event line : ℕ) (change : VerdictChange) (left_out rests_on : List (ℕ × ℕ)) → IsRecord (suc (suc depth)) (change_symbols name feeder event line change ++ doubt_symbols left_out rests_on)
 unfolding change_symbols changed_symbols fault_field doubt_symbols type_symbols place_symbols text_field word_symbols flag_symbols number_symbols list_symbols end_symbols
-change_is {depth} name feeder event change left_out rests_on =
+change_is {depth} name feeder event line change left_out rests_on =
     subst (λ (tail : List Symbol). IsRecord (suc (suc depth)) (begin_record ∷ key (codes "t") ∷ word (codes "change") ∷ key (codes "id") ∷ place feeder event ∷ key (codes "register") ∷ text name ∷ key (codes "kind") ∷ word (kind_word change.kind) ∷ key (codes "holds") ∷ flag change.holds ∷ key (codes "operations") ∷ number (decimal change.operations) ∷ key (codes "fault") ∷ tail))
-    (regrouped_end (optional_fault_symbols change.fault) (map (λ at. place at.0 at.1) rests_on) (number (decimal (length left_out))))
+    (regrouped_end (optional_fault_symbols change.fault) (map (λ at. place at.0 at.1) rests_on) (number (decimal line)) (number (decimal (length left_out))))
     (between
     (field_is (codes "t") refl (word (codes "change")) refl
     (field_is (codes "id") refl (place feeder event) refl
     (field_is (codes "register") refl (text name) refl
     (field_is (codes "kind") refl (word (kind_word change.kind)) (whole_kind change.kind)
     (field_is (codes "holds") refl (flag change.holds) refl
-    (field_is (codes "operations") refl (number (decimal change.operations)) (whole_number change.operations) (more_fields (codes "fault") refl (optional_is change.fault) (doubt_is left_out rests_on)))))))))
+    (field_is (codes "operations") refl (number (decimal change.operations)) (whole_number change.operations)
+    (more_fields (codes "fault") refl (optional_is change.fault)
+    (field_is (codes "line") refl (number (decimal line)) (whole_number line) (doubt_is left_out rests_on))))))))))
 
 ended_is : {depth : ℕ} (feeder elements : ℕ) → IsRecord (suc depth) (ended_symbols feeder elements)
 unfolding ended_symbols type_symbols number_symbols
@@ -466,7 +468,7 @@ ended_is feeder elements =
     (field_is (codes "trace") refl (number (decimal feeder)) (whole_number feeder) (field_is (codes "elements") refl (number (decimal elements)) (whole_number elements) no_field)))
 
 pub notice_is : (registers : List Register) (notice : Notice) (left_out rests_on : List (ℕ × ℕ)) → IsRecord 4 (notice_symbols registers notice left_out rests_on)
-notice_is registers (notices.Changed feeder event change) left_out rests_on = change_is (register_name registers change.register) feeder event change left_out rests_on
-notice_is registers (notices.Refused feeder event refused) left_out rests_on = refused_is feeder event refused.code
-notice_is registers (notices.Broke feeder broken) left_out rests_on = broken_is feeder broken
+notice_is registers (notices.Changed feeder event line change) left_out rests_on = change_is (register_name registers change.register) feeder event line change left_out rests_on
+notice_is registers (notices.Refused feeder event line refused) left_out rests_on = refused_is feeder event line refused.code
+notice_is registers (notices.Broke feeder broken line) left_out rests_on = broken_is feeder broken line
 notice_is registers (notices.Ended feeder elements) left_out rests_on = ended_is feeder elements

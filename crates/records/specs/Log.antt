@@ -35,9 +35,10 @@ refusal_symbols feeder event code =
     type_symbols (codes "refused") ++ place_symbols feeder event ++ word_symbols (codes "code") (refused_code code)
     ++ list_symbols (codes "with") ++ map holder_symbol (met_by code)
 
--- the record of a refusal
-unfoldable pub refused_symbols : ℕ → ℕ → Code → List Symbol
-refused_symbols feeder event code = refusal_symbols feeder event code ++ end_symbols
+-- the record of a refusal, with the line of the element
+unfoldable pub refused_symbols : ℕ → ℕ → ℕ → Code → List Symbol
+refused_symbols feeder event line code =
+    refusal_symbols feeder event code ++ (end_list ∷ []) ++ number_symbols (codes "line") line ++ end_record ∷ []
 
 -- where what a refused element collides with is: a record for each, in their order
 abbrev pub met_places : PlacesModel → Code → List Symbol
@@ -70,11 +71,11 @@ break_symbols feeder broken =
     type_symbols (codes "broken") ++ number_symbols (codes "trace") feeder ++ word_symbols (codes "code") (break_code_of broken.code)
     ++ number_symbols (codes "byte") broken.place
 
--- the record of a break
-unfoldable pub broken_symbols : ℕ → Broken → List Symbol
-broken_symbols feeder broken = break_symbols feeder broken ++ end_record ∷ []
+-- the record of a break at this line
+unfoldable pub broken_symbols : ℕ → Broken → ℕ → List Symbol
+broken_symbols feeder broken line = break_symbols feeder broken ++ number_symbols (codes "line") line ++ end_record ∷ []
 
--- the record of a break, with the line of its byte
+-- the record of a break, with the line of its byte, which may not be known
 unfoldable pub placed_break : PlacesModel → ℕ → Broken → List Symbol
 placed_break places feeder broken =
     break_symbols feeder broken ++ key (codes "line") ∷ known_symbol (line_of_byte places feeder broken.place) ∷ [] ++ end_record ∷ []

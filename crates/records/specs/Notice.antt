@@ -31,10 +31,11 @@ changed_symbols name change =
 unfoldable pub fault_field : Option Fault → List Symbol
 fault_field fault = (key (codes "fault") ∷ []) ++ optional_fault_symbols fault
 
--- a change of a verdict, with which its record begins, with the place of the element that made it
-unfoldable pub change_symbols : List ℕ → ℕ → ℕ → VerdictChange → List Symbol
-change_symbols name feeder event change =
+-- a change of a verdict, with which its record begins, with the place of the element that made it, and its line
+unfoldable pub change_symbols : List ℕ → ℕ → ℕ → ℕ → VerdictChange → List Symbol
+change_symbols name feeder event line change =
     type_symbols (codes "change") ++ place_symbols feeder event ++ changed_symbols name change ++ fault_field change.fault
+    ++ number_symbols (codes "line") line
 
 -- the record of the end of a trace: its number, and how many elements it had
 unfoldable pub ended_symbols : ℕ → ℕ → List Symbol
@@ -44,7 +45,7 @@ ended_symbols feeder elements =
 -- the record of a notice; that of a change ends with how many elements of its register were left out so far, and those of
 -- them on which its failure rests
 abbrev pub notice_symbols : List Register → Notice → List (ℕ × ℕ) → List (ℕ × ℕ) → List Symbol
-notice_symbols registers (Changed feeder event change) left_out rests_on = change_symbols (register_name registers change.register) feeder event change ++ doubt_symbols left_out rests_on
-notice_symbols registers (Refused feeder event refused) left_out rests_on = refused_symbols feeder event refused.code
-notice_symbols registers (Broke feeder broken) left_out rests_on = broken_symbols feeder broken
+notice_symbols registers (Changed feeder event line change) left_out rests_on = change_symbols (register_name registers change.register) feeder event line change ++ doubt_symbols left_out rests_on
+notice_symbols registers (Refused feeder event line refused) left_out rests_on = refused_symbols feeder event line refused.code
+notice_symbols registers (Broke feeder broken line) left_out rests_on = broken_symbols feeder broken line
 notice_symbols registers (Ended feeder elements) left_out rests_on = ended_symbols feeder elements

@@ -19,18 +19,22 @@ use places::Places;
 use shards::Answer;
 use std::alloc::AllocError;
 
-/// Adds the record of a refusal.
+/// Adds the record of a refusal, with the line of the element.
 #[tactic(auto, unfolding(crate::specs::Log::refused_symbols))]
 pub fn add_refused<'a>(
     tokens: &mut Vec<RecordToken<'a>>,
     feeder: u64,
     event: u64,
+    line: u64,
     code: &Code,
 ) -> Result<(), AllocError>
-    ensures { OnOk result (symbols_of tokens.new.items ≡ symbols_of tokens.old.items ++ refused_symbols feeder event code.now) }
+    ensures { OnOk result (symbols_of tokens.new.items ≡ symbols_of tokens.old.items ++ refused_symbols feeder event line code.now) }
 {
     add_refusal(tokens, feeder, event, code)?;
-    add_end(tokens)
+    tokens.push(RecordToken::EndList)?;
+    add_number(tokens, "line", line)?;
+    tokens.push(RecordToken::EndRecord)?;
+    Ok(())
 }
 
 /// Adds the record of a refusal, with where the element is, and what it collides with.
@@ -183,21 +187,23 @@ fn add_answer_fields<'a>(
     add_number(tokens, "operations", operations)
 }
 
-/// Adds the record of a break.
+/// Adds the record of a break at this line.
 #[tactic(auto, unfolding(crate::specs::Log::broken_symbols))]
 pub fn add_broken<'a>(
     tokens: &mut Vec<RecordToken<'a>>,
     feeder: u64,
     broken: Broken,
+    line: u64,
 ) -> Result<(), AllocError>
-    ensures { OnOk result (symbols_of tokens.new.items ≡ symbols_of tokens.old.items ++ broken_symbols feeder broken) }
+    ensures { OnOk result (symbols_of tokens.new.items ≡ symbols_of tokens.old.items ++ broken_symbols feeder broken line) }
 {
     add_break(tokens, feeder, broken)?;
+    add_number(tokens, "line", line)?;
     tokens.push(RecordToken::EndRecord)?;
     Ok(())
 }
 
-/// Adds the record of a break, with the line of its byte.
+/// Adds the record of a break, with the line of its byte, which may not be known.
 #[tactic(auto, unfolding(crate::specs::Log::placed_break))]
 pub fn add_placed_break<'a>(
     tokens: &mut Vec<RecordToken<'a>>,

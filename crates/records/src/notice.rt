@@ -48,18 +48,24 @@ fn add_notice<'a>(
         Notice::Changed {
             feeder,
             place,
+            line,
             change,
         } => {
             let name = name_of(tower, change.register);
-            add_change(tokens, name, u64::from(*feeder), *place, change)?;
+            add_change(tokens, name, u64::from(*feeder), *place, *line, change)?;
             add_doubt(tokens, doubt.left_out.as_slice(), doubt.rests_on.as_slice())
         }
         Notice::Refused {
             feeder,
             place,
+            line,
             left_out,
-        } => add_refused(tokens, u64::from(*feeder), *place, &left_out.code),
-        Notice::Broke { feeder, broken } => add_broken(tokens, u64::from(*feeder), *broken),
+        } => add_refused(tokens, u64::from(*feeder), *place, *line, &left_out.code),
+        Notice::Broke {
+            feeder,
+            broken,
+            line,
+        } => add_broken(tokens, u64::from(*feeder), *broken, *line),
         Notice::Ended { feeder, elements } => add_ended(tokens, u64::from(*feeder), *elements),
     }
 }
@@ -71,14 +77,16 @@ fn add_change<'a>(
     name: &'a [u8],
     feeder: u64,
     event: u64,
+    line: u64,
     change: &VerdictChange,
 ) -> Result<(), AllocError>
-    ensures { OnOk result (symbols_of tokens.new.items ≡ symbols_of tokens.old.items ++ change_symbols name.now feeder event change.now) }
+    ensures { OnOk result (symbols_of tokens.new.items ≡ symbols_of tokens.old.items ++ change_symbols name.now feeder event line change.now) }
 {
     add_type(tokens, "change")?;
     add_place(tokens, feeder, event)?;
     add_changed(tokens, name, change)?;
-    add_fault_field(tokens, change.fault)
+    add_fault_field(tokens, change.fault)?;
+    add_number(tokens, "line", line)
 }
 
 /// A register as a change of its verdict left it.
