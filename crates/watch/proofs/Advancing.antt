@@ -110,10 +110,10 @@ holds_and_fails false holding failing = absurd cc
 
 -- a refusal, a break and an end are no failure
 pub no_failure : (notice : Notice)
-    → ((feeder : ℕ) × (place : ℕ) × (left_out : LeftOut) × (notice ≡ Refused feeder place left_out)) ⊎ (((feeder : ℕ) × (broken : Broken) × (notice ≡ Broke feeder broken)) ⊎ ((feeder : ℕ) × (elements : ℕ) × (notice ≡ Ended feeder elements)))
+    → ((feeder : ℕ) × (place : ℕ) × (line : ℕ) × (left_out : LeftOut) × (notice ≡ Refused feeder place line left_out)) ⊎ (((feeder : ℕ) × (broken : Broken) × (line : ℕ) × (notice ≡ Broke feeder broken line)) ⊎ ((feeder : ℕ) × (elements : ℕ) × (notice ≡ Ended feeder elements)))
     → says_fails notice ≡ true → ⊥
-no_failure notice (inl is) fails = let no : says_fails (Refused is.0 is.1 is.2) ≡ true = subst (λ (n : Notice). says_fails n ≡ true) is.3 fails in absurd cc
-no_failure notice (inr (inl is)) fails = let no : says_fails (Broke is.0 is.1) ≡ true = subst (λ (n : Notice). says_fails n ≡ true) is.2 fails in absurd cc
+no_failure notice (inl is) fails = let no : says_fails (Refused is.0 is.1 is.2 is.3) ≡ true = subst (λ (n : Notice). says_fails n ≡ true) is.4 fails in absurd cc
+no_failure notice (inr (inl is)) fails = let no : says_fails (Broke is.0 is.1 is.2) ≡ true = subst (λ (n : Notice). says_fails n ≡ true) is.3 fails in absurd cc
 no_failure notice (inr (inr is)) fails = let no : says_fails (Ended is.0 is.1) ≡ true = subst (λ (n : Notice). says_fails n ≡ true) is.2 fails in absurd cc
 
 -- what was held back first was due

@@ -17,9 +17,9 @@ of_register number element = if is_about number element.about then element ∷ [
 
 -- the element that a notice says was left out, if it does
 abbrev pub element_of : Notice → Option LeftElement
-element_of (Changed feeder place change) = None
-element_of (Refused feeder place left_out) = Some (record { at = (feeder, place); about = left_out.about })
-element_of (Broke feeder broken) = None
+element_of (Changed feeder place line change) = None
+element_of (Refused feeder place line left_out) = Some (record { at = (feeder, place); about = left_out.about })
+element_of (Broke feeder broken line) = None
 element_of (Ended feeder elements) = None
 
 -- the same as a list, where it is of the register of this number
@@ -40,16 +40,16 @@ rested_among change elements = filter (λ element. change_rests_on change elemen
 
 -- the elements that the earlier notices say were left out of the register whose verdict a notice says has changed
 abbrev pub left_out_before : List Notice → Notice → List (ℕ × ℕ)
-left_out_before earlier (Changed feeder place change) = map element_place (named_in change.register.0 earlier)
-left_out_before earlier (Refused feeder place left_out) = []
-left_out_before earlier (Broke feeder broken) = []
+left_out_before earlier (Changed feeder place line change) = map element_place (named_in change.register.0 earlier)
+left_out_before earlier (Refused feeder place line left_out) = []
+left_out_before earlier (Broke feeder broken line) = []
 left_out_before earlier (Ended feeder elements) = []
 
 -- those of them on which its failure rests
 abbrev pub rested_before : List Notice → Notice → List (ℕ × ℕ)
-rested_before earlier (Changed feeder place change) = map element_place (rested_among change (named_in change.register.0 earlier))
-rested_before earlier (Refused feeder place left_out) = []
-rested_before earlier (Broke feeder broken) = []
+rested_before earlier (Changed feeder place line change) = map element_place (rested_among change (named_in change.register.0 earlier))
+rested_before earlier (Refused feeder place line left_out) = []
+rested_before earlier (Broke feeder broken line) = []
 rested_before earlier (Ended feeder elements) = []
 
 -- the elements that are kept of the register of this number; none where there is no list of it

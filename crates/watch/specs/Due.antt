@@ -64,14 +64,14 @@ has_due (first ∷ held) progress = is_due first.until.items progress
 
 -- whether what is held back is of another register than the one of which this notice tells a change
 abbrev pub is_of_another : Notice → Held → Bool
-is_of_another (Changed feeder place change) held = not (held.placed.change.register.0 == change.register.0)
-is_of_another (Refused feeder place left_out) held = true
-is_of_another (Broke feeder broken) held = true
+is_of_another (Changed feeder place line change) held = not (held.placed.change.register.0 == change.register.0)
+is_of_another (Refused feeder place line left_out) held = true
+is_of_another (Broke feeder broken line) held = true
 is_of_another (Ended feeder elements) held = true
 
 -- the notice of a change
 abbrev pub notice_of : PlacedChange → Notice
-notice_of placed = Changed placed.feeder placed.place placed.change
+notice_of placed = Changed placed.feeder placed.place placed.line placed.change
 
 -- the notice of a change that is held back
 abbrev pub held_notice : Held → Notice

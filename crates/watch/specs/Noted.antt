@@ -35,16 +35,16 @@ note_of_break broken = Broke (break_code_of broken.code) broken.place
 
 -- the feeder that a notice names
 abbrev pub feeder_of_notice : Notice → ℕ
-feeder_of_notice (notices.Changed feeder place change) = feeder
-feeder_of_notice (notices.Refused feeder place left_out) = feeder
-feeder_of_notice (notices.Broke feeder broken) = feeder
+feeder_of_notice (notices.Changed feeder place line change) = feeder
+feeder_of_notice (notices.Refused feeder place line left_out) = feeder
+feeder_of_notice (notices.Broke feeder broken line) = feeder
 feeder_of_notice (notices.Ended feeder elements) = feeder
 
 -- what a notice notes; none for a change. How many elements a trace had when it ended is left out: no log says it
 abbrev pub note_of_notice : Notice → Option Note
-note_of_notice (notices.Changed feeder place change) = None
-note_of_notice (notices.Refused feeder place left_out) = Some (note_of_refusal place left_out)
-note_of_notice (notices.Broke feeder broken) = Some (note_of_break broken)
+note_of_notice (notices.Changed feeder place line change) = None
+note_of_notice (notices.Refused feeder place line left_out) = Some (note_of_refusal place left_out)
+note_of_notice (notices.Broke feeder broken line) = Some (note_of_break broken)
 note_of_notice (notices.Ended feeder elements) = Some Ended
 
 -- what a notice notes of the trace of this number, where it names its feeder

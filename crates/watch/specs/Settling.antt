@@ -6,9 +6,9 @@ use Rattle.logs.specs.declared.notice.Notice.TheVariants.{Changed, Refused, Brok
 
 -- whether a notice is a change of the verdict on the register of this number
 abbrev pub is_change_of : ℕ → Notice → Bool
-is_change_of register (Changed feeder place change) = change.register.0 == register
-is_change_of register (Refused feeder place left_out) = false
-is_change_of register (Broke feeder broken) = false
+is_change_of register (Changed feeder place line change) = change.register.0 == register
+is_change_of register (Refused feeder place line left_out) = false
+is_change_of register (Broke feeder broken line) = false
 is_change_of register (Ended feeder elements) = false
 
 -- the changes of the verdict on this register among notices, in order
@@ -17,16 +17,16 @@ notices_of register notices = filter (is_change_of register) notices
 
 -- whether a notice is no change of a verdict: a refusal, a break or an end
 abbrev pub is_no_change : Notice → Bool
-is_no_change (Changed feeder place change) = false
-is_no_change (Refused feeder place left_out) = true
-is_no_change (Broke feeder broken) = true
+is_no_change (Changed feeder place line change) = false
+is_no_change (Refused feeder place line left_out) = true
+is_no_change (Broke feeder broken line) = true
 is_no_change (Ended feeder elements) = true
 
 -- whether a notice says that a register fails
 abbrev pub says_fails : Notice → Bool
-says_fails (Changed feeder place change) = not change.holds
-says_fails (Refused feeder place left_out) = false
-says_fails (Broke feeder broken) = false
+says_fails (Changed feeder place line change) = not change.holds
+says_fails (Refused feeder place line left_out) = false
+says_fails (Broke feeder broken line) = false
 says_fails (Ended feeder elements) = false
 
 -- the second list is the first one less pairs of one that fails and the next one, which does not

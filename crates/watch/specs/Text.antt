@@ -29,9 +29,9 @@ changed_text registers change =
 -- the line of a notice: a change of a verdict, with the place of the element whose edit made it and why the register
 -- fails; a refusal; where a trace broke; or that it ended, with how many elements
 abbrev pub line_of_notice : List Register → Notice → List ℕ
-line_of_notice registers (Changed feeder place change) = changed_text registers change ++ codes " at " ++ place_text feeder place ++ fault_part change.fault ++ 10 ∷ []
-line_of_notice registers (Refused feeder place left_out) = codes "refused " ++ place_text feeder place ++ codes " " ++ refused_code left_out.code ++ 10 ∷ []
-line_of_notice registers (Broke feeder broken) = broken_line feeder (Some broken)
+line_of_notice registers (Changed feeder place line change) = changed_text registers change ++ codes " at " ++ place_text feeder place ++ fault_part change.fault ++ 10 ∷ []
+line_of_notice registers (Refused feeder place line left_out) = codes "refused " ++ place_text feeder place ++ codes " " ++ refused_code left_out.code ++ 10 ∷ []
+line_of_notice registers (Broke feeder broken line) = broken_line feeder (Some broken)
 line_of_notice registers (Ended feeder elements) = codes "end " ++ decimal feeder ++ codes " " ++ decimal elements ++ 10 ∷ []
 
 -- the record of a notice after these earlier ones, in JSON: it says what is in doubt by what they say was left out

@@ -26,9 +26,9 @@ unwatched (runs.Shard fault) = Shard fault
 
 -- whether a watch ends at this notice: a register fails, where it is to end at the first that does
 abbrev pub ends_at : Bool → Notice → Bool
-ends_at until_fail (Changed feeder place change) = until_fail && not change.holds
-ends_at until_fail (Refused feeder place left_out) = false
-ends_at until_fail (Broke feeder broken) = false
+ends_at until_fail (Changed feeder place line change) = until_fail && not change.holds
+ends_at until_fail (Refused feeder place line left_out) = false
+ends_at until_fail (Broke feeder broken line) = false
 ends_at until_fail (Ended feeder elements) = false
 
 -- the last one of the notices ends the watch, and none before it does
@@ -46,9 +46,9 @@ IsEnd until_fail notices false = list_any (ends_at until_fail) notices ≡ false
 
 -- the change that a notice tells, where its register is in this shard; n is the number of shards
 abbrev pub change_in : ℕ → ℕ → Notice → Option VerdictChange
-change_in n at (Changed feeder place change) = if change.register.0 % n == at then Some change else None
-change_in n at (Refused feeder place left_out) = None
-change_in n at (Broke feeder broken) = None
+change_in n at (Changed feeder place line change) = if change.register.0 % n == at then Some change else None
+change_in n at (Refused feeder place line left_out) = None
+change_in n at (Broke feeder broken line) = None
 change_in n at (Ended feeder elements) = None
 
 -- the changes that notices tell in a shard, in order
@@ -65,9 +65,9 @@ HasEntryBy closed at number feeder = option_map (λ entry. entry.feeder) (slice_
 
 -- the entry of a change that is told is by the feeder that the notice names
 abbrev pub IsByEntry : ℕ → List ClosedShard → Notice → Type 0
-IsByEntry n closed (Changed feeder place change) = HasEntryBy closed (change.register.0 % n) change.number feeder
-IsByEntry n closed (Refused feeder place left_out) = Unit {0}
-IsByEntry n closed (Broke feeder broken) = Unit {0}
+IsByEntry n closed (Changed feeder place line change) = HasEntryBy closed (change.register.0 % n) change.number feeder
+IsByEntry n closed (Refused feeder place line left_out) = Unit {0}
+IsByEntry n closed (Broke feeder broken line) = Unit {0}
 IsByEntry n closed (Ended feeder elements) = Unit {0}
 
 -- the entry of each change that is told is by the feeder that its notice names

@@ -110,6 +110,7 @@ fn element_of(notice: &Notice) -> Option<LeftElement>
             feeder,
             place,
             left_out,
+            ..
         } => Some(LeftElement {
             at: (*feeder as usize, *place),
             about: left_out.about,

@@ -18,6 +18,8 @@ pub struct Live<'r, 'a, 't, R, W: Write, B: Beginning> {
     over: &'r AtomicBool,
     /// Whether failures are held back.
     settles: bool,
+    /// Whether notices are to have lines.
+    has_lines: bool,
 }
 
 impl<'r, 'a, 't, R, W: Write, B: Beginning> Live<'r, 'a, 't, R, W, B> {
@@ -26,12 +28,14 @@ impl<'r, 'a, 't, R, W: Write, B: Beginning> Live<'r, 'a, 't, R, W, B> {
         teller: &'r Mutex<Teller<'a, 't, W, B>>,
         over: &'r AtomicBool,
         settles: bool,
+        has_lines: bool,
     ) -> Self {
         Live {
             rt,
             teller,
             over,
             settles,
+            has_lines,
         }
     }
 }
@@ -52,6 +56,10 @@ impl<R: Wait + Sync, W: Write + Send, B: Beginning + Send> Watcher for Live<'_, 
         if !teller.goes_on() {
             self.over.store(true, Ordering::SeqCst);
         }
+    }
+
+    fn wants_lines(&self) -> bool {
+        self.has_lines
     }
 
     /// Where no failure is held back it counts nothing, and takes no lock.

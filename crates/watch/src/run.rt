@@ -176,7 +176,7 @@ fn run_told<
 {
     let alloc = rt.alloc();
     let over = AtomicBool::new(false);
-    let live = Live::new(rt, teller, &over, terms.settle != 0);
+    let live = Live::new(rt, teller, &over, terms.settle != 0, terms.form.has_lines());
     let readers = stopped_by(alloc, readers, &over)?;
     let setup = Setup {
         rt,

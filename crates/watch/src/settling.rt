@@ -30,11 +30,12 @@ pub enum Advance {
     Over,
 }
 
-/// A change, with the place of the element whose edit made it.
+/// A change, with the place of the element whose edit made it, and the line at which that element begins.
 #[derive(Clone, Copy)]
 pub struct PlacedChange {
     pub feeder: u32,
     pub place: u64,
+    pub line: u64,
     pub change: VerdictChange,
 }
 
@@ -45,6 +46,7 @@ impl PlacedChange {
         Notice::Changed {
             feeder: self.feeder,
             place: self.place,
+            line: self.line,
             change: self.change,
         }
     }
@@ -139,11 +141,13 @@ pub fn passed_on(
         Notice::Changed {
             feeder,
             place,
+            line,
             change,
         } => {
             let placed = PlacedChange {
                 feeder,
                 place,
+                line,
                 change,
             };
             change_passed_on(alloc, held, progress, settle, placed)

@@ -1,6 +1,6 @@
 //! The text of a notice.
 
-ghost use Rattle.std.specs.Prelude.{◌≡◌, ◌++◌, ◌∷◌, [], List, OnOk, IfOk, string_bytes};
+ghost use Rattle.std.specs.Prelude.{◌≡◌, ◌↔◌, ◌++◌, ◌∷◌, [], List, IsTrue, OnOk, IfOk, string_bytes};
 ghost use Rattle.logs.specs.declared.notice.Notice.{Notice as ANotice};
 ghost use Rattle.records.specs.Json.{json_text};
 ghost use Rattle.records.specs.Notice.{notice_symbols};
@@ -24,6 +24,18 @@ pub enum NoticeForm {
     Line,
     /// As a record in JSON.
     Record,
+}
+
+impl NoticeForm {
+    /// Whether it has the lines of elements.
+    pub fn has_lines(self) -> bool
+        ensures { IsTrue result ↔ self ≡ NoticeForm.Record }
+    {
+        match self {
+            NoticeForm::Line => false,
+            NoticeForm::Record => true,
+        }
+    }
 }
 
 /// The text of a notice, with its line end, after others that say which elements were left out.
@@ -84,6 +96,7 @@ fn push_line(text: &mut String, tower: &Tower, notice: &Notice) -> Result<(), Al
             feeder,
             place,
             change,
+            ..
         } => {
             push_changed(text, tower, change)?;
             write!(text, " at {feeder}:{place}")?;
@@ -94,12 +107,13 @@ fn push_line(text: &mut String, tower: &Tower, notice: &Notice) -> Result<(), Al
             feeder,
             place,
             left_out,
+            ..
         } => {
             write!(text, "refused {feeder}:{place} ")?;
             text.push_str(left_out.code.code())?;
             text.push_str("\n")
         }
-        Notice::Broke { feeder, broken } => {
+        Notice::Broke { feeder, broken, .. } => {
             write!(text, "broken {feeder} ")?;
             text.push_str(broken.code.code())?;
             write!(text, " at {}\n", broken.place)
