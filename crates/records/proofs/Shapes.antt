@@ -54,7 +54,7 @@ use Rattle.records.specs.Fault.{fault_symbols, side_value}
 use Rattle.records.specs.Field.{end_symbols, flag_symbols, list_symbols, number_symbols, place_symbols, text_field, type_symbols, word_symbols}
 use Rattle.records.specs.Grammar.{AreFields, AreValues, IsOneValue, IsRecord, alone, between, is_whole_value, is_record_word, listed, more_fields, more_values, nested, no_field, no_value}
 use Rattle.records.specs.Log.{answer_symbols, break_symbols, broken_symbols, met_by, met_places, placed_break, placed_refusal, refusal_end, refusal_symbols, refused_symbols}
-use Rattle.records.specs.Notice.{change_symbols, changed_symbols, ended_symbols, fault_field, fault_ids_symbols, notice_symbols, optional_fault_symbols}
+use Rattle.records.specs.Notice.{change_end, change_symbols, changed_symbols, ended_symbols, fault_field, fault_ids_symbols, notice_symbols, optional_fault_symbols}
 use Rattle.records.specs.Operation.{act_word, op_spot, op_symbols}
 use Rattle.records.specs.Register.{doubt_symbols, register_symbols, witness_symbols}
 use Rattle.records.specs.Run.{AreRecordsOfRun, RunNames, asked_records, broken_records, has_record, line_record, log_records, logs_records, records_of, register_record, registers_records, totals_of, what_record}
@@ -440,16 +440,16 @@ optional_is : {depth : ℕ} (fault : Option Fault) → IsOneValue (suc depth) (o
 optional_is None = alone nothing refl
 optional_is (Some fault) = nested (ids_are fault)
 
-regrouped_end : (fault rests : List Symbol) (line left : Symbol)
-    → (fault ++ (key (codes "line") ∷ line ∷ key (codes "left_out") ∷ left ∷ key (codes "rests_on") ∷ begin_list ∷ (rests ++ end_list ∷ []))) ++ end_record ∷ []
-    ≡ (fault ++ key (codes "line") ∷ line ∷ []) ++ (key (codes "left_out") ∷ left ∷ key (codes "rests_on") ∷ begin_list ∷ (rests ++ end_list ∷ end_record ∷ []))
-regrouped_end fault rests line left = simp append_assoc
+regrouped_end : (fault rests : List Symbol) (left line : Symbol)
+    → (fault ++ (key (codes "left_out") ∷ left ∷ key (codes "rests_on") ∷ ((begin_list ∷ (rests ++ end_list ∷ [])) ++ (key (codes "line") ∷ line ∷ [])))) ++ end_record ∷ []
+    ≡ fault ++ (key (codes "left_out") ∷ left ∷ key (codes "rests_on") ∷ begin_list ∷ (rests ++ (end_list ∷ []) ++ (key (codes "line") ∷ line ∷ []) ++ end_record ∷ []))
+regrouped_end fault rests left line = simp append_assoc
 
-change_is : {depth : ℕ} (name : List ℕ) (feeder event line : ℕ) (change : VerdictChange) (left_out rests_on : List (ℕ × ℕ)) → IsRecord (suc (suc depth)) (change_symbols name feeder event line change ++ doubt_symbols left_out rests_on)
-unfolding change_symbols changed_symbols fault_field doubt_symbols type_symbols place_symbols text_field word_symbols flag_symbols number_symbols list_symbols end_symbols
+change_is : {depth : ℕ} (name : List ℕ) (feeder event line : ℕ) (change : VerdictChange) (left_out rests_on : List (ℕ × ℕ)) → IsRecord (suc (suc depth)) (change_symbols name feeder event change ++ change_end left_out rests_on line)
+unfolding change_symbols change_end changed_symbols fault_field type_symbols place_symbols text_field word_symbols flag_symbols number_symbols list_symbols
 change_is {depth} name feeder event line change left_out rests_on =
     subst (λ (tail : List Symbol). IsRecord (suc (suc depth)) (begin_record ∷ key (codes "t") ∷ word (codes "change") ∷ key (codes "id") ∷ place feeder event ∷ key (codes "register") ∷ text name ∷ key (codes "kind") ∷ word (kind_word change.kind) ∷ key (codes "holds") ∷ flag change.holds ∷ key (codes "operations") ∷ number (decimal change.operations) ∷ key (codes "fault") ∷ tail))
-    (regrouped_end (optional_fault_symbols change.fault) (map (λ at. place at.0 at.1) rests_on) (number (decimal line)) (number (decimal (length left_out))))
+    (regrouped_end (optional_fault_symbols change.fault) (map (λ at. place at.0 at.1) rests_on) (number (decimal (length left_out))) (number (decimal line)))
     (between
     (field_is (codes "t") refl (word (codes "change")) refl
     (field_is (codes "id") refl (place feeder event) refl
@@ -458,7 +458,8 @@ change_is {depth} name feeder event line change left_out rests_on =
     (field_is (codes "holds") refl (flag change.holds) refl
     (field_is (codes "operations") refl (number (decimal change.operations)) (whole_number change.operations)
     (more_fields (codes "fault") refl (optional_is change.fault)
-    (field_is (codes "line") refl (number (decimal line)) (whole_number line) (doubt_is left_out rests_on))))))))))
+    (field_is (codes "left_out") refl (number (decimal (length left_out))) (whole_number (length left_out))
+    (more_fields (codes "rests_on") refl (listed (elements_are rests_on)) (field_is (codes "line") refl (number (decimal line)) (whole_number line) no_field)))))))))))
 
 ended_is : {depth : ℕ} (feeder elements : ℕ) → IsRecord (suc depth) (ended_symbols feeder elements)
 unfolding ended_symbols type_symbols number_symbols

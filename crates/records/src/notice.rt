@@ -3,15 +3,14 @@
 ghost use Rattle.std.specs.Prelude.{◌≡◌, ◌++◌, ◌∷◌, [], OnOk};
 ghost use Rattle.phrases.specs.Names.{register_name};
 ghost use Rattle.records.specs.Json.{json_text};
-ghost use Rattle.records.specs.Notice.{change_symbols, changed_symbols, ended_symbols, fault_field, fault_ids_symbols, notice_symbols, optional_fault_symbols};
-ghost use Rattle.records.specs.Register.{doubt_symbols};
+ghost use Rattle.records.specs.Notice.{change_end, change_symbols, changed_symbols, ended_symbols, fault_field, fault_ids_symbols, notice_symbols, optional_fault_symbols};
 ghost use Rattle.records.specs.Symbol.{symbols_of};
 
 use crate::fault::add_fault_head;
-use crate::field::{add_flag, add_number, add_place, add_text, add_type, add_word};
+use crate::field::{add_flag, add_list, add_number, add_place, add_text, add_type, add_word};
 use crate::line::{Notation, push_record};
 use crate::log::{add_broken, add_refused};
-use crate::register::add_doubt;
+use crate::register::add_elements;
 use crate::token::RecordToken;
 use logs::Notice;
 use phrases::{kind_word, name_of};
@@ -52,8 +51,9 @@ fn add_notice<'a>(
             change,
         } => {
             let name = name_of(tower, change.register);
-            add_change(tokens, name, u64::from(*feeder), *place, *line, change)?;
-            add_doubt(tokens, doubt.left_out.as_slice(), doubt.rests_on.as_slice())
+            add_change(tokens, name, u64::from(*feeder), *place, change)?;
+            let left_out = doubt.left_out.as_slice();
+            add_change_end(tokens, left_out, doubt.rests_on.as_slice(), *line)
         }
         Notice::Refused {
             feeder,
@@ -77,16 +77,33 @@ fn add_change<'a>(
     name: &'a [u8],
     feeder: u64,
     event: u64,
-    line: u64,
     change: &VerdictChange,
 ) -> Result<(), AllocError>
-    ensures { OnOk result (symbols_of tokens.new.items ≡ symbols_of tokens.old.items ++ change_symbols name.now feeder event line change.now) }
+    ensures { OnOk result (symbols_of tokens.new.items ≡ symbols_of tokens.old.items ++ change_symbols name.now feeder event change.now) }
 {
     add_type(tokens, "change")?;
     add_place(tokens, feeder, event)?;
     add_changed(tokens, name, change)?;
-    add_fault_field(tokens, change.fault)?;
-    add_number(tokens, "line", line)
+    add_fault_field(tokens, change.fault)
+}
+
+/// What is in doubt of the register of a change, and the line of its element, with which the record ends.
+#[tactic(auto, unfolding(crate::specs::Notice::change_end))]
+fn add_change_end<'a>(
+    tokens: &mut Vec<RecordToken<'a>>,
+    left_out: &[(usize, u64)],
+    rests_on: &[(usize, u64)],
+    line: u64,
+) -> Result<(), AllocError>
+    ensures { OnOk result (symbols_of tokens.new.items ≡ symbols_of tokens.old.items ++ change_end left_out.now rests_on.now line) }
+{
+    add_number(tokens, "left_out", left_out.len() as u64)?;
+    add_list(tokens, "rests_on")?;
+    add_elements(tokens, rests_on)?;
+    tokens.push(RecordToken::EndList)?;
+    add_number(tokens, "line", line)?;
+    tokens.push(RecordToken::EndRecord)?;
+    Ok(())
 }
 
 /// A register as a change of its verdict left it.

@@ -137,7 +137,7 @@ pub fn add_doubt<'a>(
 }
 
 /// Adds elements, each by the number of its trace and its place there.
-fn add_elements<'a>(
+pub fn add_elements<'a>(
     tokens: &mut Vec<RecordToken<'a>>,
     elements: &[(usize, u64)],
 ) -> Result<(), AllocError>
