@@ -19,8 +19,8 @@ use Rattle.shards.specs.Plan.{Plan}
 use Rattle.shards.specs.Journal.{HoldsAfter, IsAnswered, IsJournalOf, left_by, count_by}
 use Rattle.shards.specs.VerdictChange.{AreVerdictChanges}
 use Rattle.shards.specs.Steps.{IsStanding}
-use Rattle.shards.specs.Shard.{AreBooks, AreEntryCounts, IsShardOf}
-use Rattle.shards.proofs.KeptJournals.{kept_more}
+use Rattle.shards.specs.Shard.{AreBooks, AreEntryCounts, IsShardOf, NotesFeeders}
+use Rattle.shards.proofs.KeptJournals.{feeders_more, kept_more}
 use Rattle.shards.proofs.Slots.{register_of, slot_of, some_within, get_set_same, get_set_other}
 use Rattle.shards.proofs.Journals.{each_after_push, left_push_own, left_push_other, count_push_own, count_push_other}
 
@@ -136,8 +136,9 @@ pub kept_push : (plan : Plan) (old new : Shard) (entry : Entry) (book edited : B
     → new.counts.items ≡ set old.counts.items entry.feeder (count + 1)
     → AreVerdictChanges plan new.entries new.changes.items → new.many ≡ old.many + 1
     → new.keeps ≡ old.keeps → (IsTrue old.keeps → new.journal.items ≡ old.journal.items ++ entry ∷ [])
+    → (NotesFeeders old → new.by.items ≡ old.by.items ++ entry.feeder ∷ [])
     → IsShardOf plan new
-kept_push plan old new entry book edited count kept here known feeder is reply count_is at_is shards_is journal_is edited_to books_are counts_are changes many_is keeps_is kept_is =
+kept_push plan old new entry book edited count kept here known feeder is reply count_is at_is shards_is journal_is edited_to books_are counts_are changes many_is keeps_is kept_is by_is =
     let has : HasBook plan old entry.register.0 = has_book plan old entry.register.0 kept here known in
     let held : claimed_of book ≡ left_by old.entries entry.register.0 has.claim = same_book plan old entry.register.0 book has is in
     let answered : IsAnswered plan old.at old.entries entry = answered_by plan old entry book kept here known is reply in
@@ -160,6 +161,7 @@ kept_push plan old new entry book edited count kept here known feeder is reply c
       changes = changes;
       many = many_is ∙ ap (λ (n : ℕ). n + 1) kept.many ∙ sym (ap length journal_is ∙ length_push old.entries entry);
       kept = kept_more old new entry kept.kept keeps_is journal_is kept_is;
+      by = feeders_more old new entry kept.by keeps_is (ap length counts_are ∙ length-set old.counts.items entry.feeder (count + 1)) journal_is by_is;
     }
 
 -- the answer from a book is that of the register as the journal leaves it

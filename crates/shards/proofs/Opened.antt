@@ -66,12 +66,13 @@ get_replicate : (n i x : ℕ) → i < n → slice_get (replicate n x) i ≡ Some
 get_replicate n i x below = slice_get-get_or (replicate n x) i x (omega (arith, below, length-replicate n x)) ∙ ap Some (get_or-replicate n i x x below)
 
 -- a shard with these books, no entries and counts of 0 is one of the plan
-pub opened : (plan : Plan) (shard : Shard) → shard.shards ≡ plan.shards → shard.at < plan.shards → shard.entries ≡ [] → shard.many ≡ 0 → shard.journal.items ≡ [] → AreBooks plan shard.at [] (map claimed_of shard.books.items) → shard.counts.items ≡ replicate plan.feeders 0 → shard.changes.items ≡ [] → IsShardOf plan shard
-opened plan shard shards here empty none unkept books counts unchanged = record {
+pub opened : (plan : Plan) (shard : Shard) → shard.shards ≡ plan.shards → shard.at < plan.shards → shard.entries ≡ [] → shard.many ≡ 0 → shard.journal.items ≡ [] → shard.by.items ≡ [] → AreBooks plan shard.at [] (map claimed_of shard.books.items) → shard.counts.items ≡ replicate plan.feeders 0 → shard.changes.items ≡ [] → IsShardOf plan shard
+opened plan shard shards here empty none unkept unnoted books counts unchanged = record {
   shards = shards;
   here = here;
   many = none ∙ sym (ap length empty);
   kept = λ keeps. unkept ∙ sym empty;
+  by = λ notes. unnoted ∙ sym (ap (map (λ (entry : Entry). entry.feeder)) empty);
   of_shard = subst (IsJournalOf plan shard.at) (sym empty) (record { legal = tt; feeders = All-nil (λ (entry : Entry). entry.feeder < plan.feeders) });
   books = subst (λ (journal : List Entry). AreBooks plan shard.at journal (map claimed_of shard.books.items)) (sym empty) books;
   counts = subst (λ (journal : List Entry). AreEntryCounts plan journal shard.counts.items) (sym empty)

@@ -1,5 +1,5 @@
 -- The fields of a shard, passes in step, and what closing has gone through; for private clauses alone.
-use Rattle.std.specs.Prelude.{◌≡◌, ◌≢◌, ◌↔◌, ◌⊎◌, ◌<◌, ◌+◌, ◌*◌, ◌^◌, ℕ, Bool, false, List, [], ◌∷◌, length, Option, Some, option_map, map, unwrap_or, slice_index_or, All, IfSome, IsNone, IsSomeAnd, IsTrue}
+use Rattle.std.specs.Prelude.{◌≡◌, ◌≢◌, ◌↔◌, ◌⊎◌, ◌<◌, ◌≤◌, ◌+◌, ◌*◌, ◌^◌, ℕ, Bool, false, List, [], ◌∷◌, length, Option, Some, option_map, map, unwrap_or, slice_index_or, All, IfSome, IsNone, IsSomeAnd, IsTrue}
 use Rattle.std.specs.List.{AllByRecursion, AllWithin, slice_get}
 use Rattle.intervals.specs.Terms.{RegisterState}
 use Rattle.intervals.specs.declared.operation.RegId.{RegId}
@@ -31,8 +31,17 @@ AreEntryCounts plan journal counts = (length counts ≡ plan.feeders) × ((feede
 abbrev pub IsKeptJournal : Shard → Type 0
 IsKeptJournal shard = IsTrue shard.keeps → shard.journal.items ≡ shard.entries
 
+-- a shard that keeps no journal and has several feeders
+abbrev pub NotesFeeders : Shard → Type 0
+NotesFeeders shard = (shard.keeps ≡ false) × (1 < length shard.counts.items)
+
+-- a shard that keeps no journal and has several feeders has the feeder of each entry
+abbrev pub HasFeeders : Shard → Type 0
+HasFeeders shard = NotesFeeders shard → shard.by.items ≡ map (λ entry. entry.feeder) shard.entries
+
 -- a shard of the plan: its entries are a journal of that shard, its books are what they leave, its counts are those of
--- the entries and of the entries by feeder, its changes are those by the entries, and a journal that it keeps has them
+-- the entries and of the entries by feeder, its changes are those by the entries, a journal that it keeps has them, and
+-- where it keeps none it has the feeder of each, if there are several
 pub record IsShardOf (plan : Plan) (shard : Shard) : Type 0 where
   pub shards : shard.shards ≡ plan.shards
   pub here : shard.at < plan.shards
@@ -42,26 +51,27 @@ pub record IsShardOf (plan : Plan) (shard : Shard) : Type 0 where
   pub counts : AreEntryCounts plan shard.entries shard.counts.items
   pub changes : AreVerdictChanges plan shard.entries shard.changes.items
   pub kept : IsKeptJournal shard
+  pub by : HasFeeders shard
 
 -- a shard of the plan that keeps its journal
 pub record IsKeptShardOf (plan : Plan) (shard : Shard) : Type 0 where
   pub of_plan : IsShardOf plan shard
   pub keeps : IsTrue shard.keeps
 
--- what is known of a shard at the end: how many entries it has, that a journal that it keeps has them, and that they are
--- all by feeder 0 where it keeps none
+-- what is known of a shard at the end: how many entries it has, that a journal that it keeps has them, that it has the
+-- feeder of each where it keeps none and there are several feeders, and that all are by feeder 0 where there are not
 pub record IsEndedShard (shard : Shard) : Type 0 where
   pub many : shard.many ≡ length shard.entries
   pub kept : IsKeptJournal shard
-  pub alone : shard.keeps ≡ false → All (λ entry. entry.feeder ≡ 0) shard.entries
+  pub by : HasFeeders shard
+  pub alone : length shard.counts.items ≤ 1 → All (λ entry. entry.feeder ≡ 0) shard.entries
 
 -- the entries of each shard
 abbrev pub entries_of_each : List Shard → List (List Entry)
 entries_of_each shards = map (λ shard. shard.entries) shards
 
--- the shards of a plan with one feeder, each at the place of its number
+-- the shards of a plan, each at the place of its number
 pub record AreShardsAlone (plan : Plan) (shards : List Shard) : Type 0 where
-  pub one : plan.feeders ≡ 1
   pub many : length shards ≡ plan.shards
   pub some : 0 < plan.shards
   pub few : plan.shards < 2 ^ 32

@@ -12,7 +12,8 @@ use intervals::RegId;
 use register_book::RegisterBook;
 use std::marker::Model;
 
-/// The journals of all shards, and the books that they leave. The journals of a lone feeder are there in proofs alone.
+/// The journals of all shards, and the books that they leave. The journals of an auditor of one thread are there in proofs
+/// alone.
 #[derive(Drop)]
 pub struct Closed<'t> {
     shards: Vec<Shard<'t>>,
@@ -84,13 +85,17 @@ impl<'t> Closed<'t> {
     }
 }
 
-/// The feeder of the entry of this number in a shard. What a lone feeder entered is not kept, and is by feeder 0.
+/// The feeder of the entry of this number in a shard. Where the journal is not kept the shard has the feeder of each entry
+/// if there are several feeders; else each entry is by feeder 0.
 fn feeder_in(shard: &Shard, number: u64) -> Option<u32>
     requires { IsEndedShard shard.now }
     ensures { result ≡ option_map (λ entry. entry.feeder) (slice_get shard.now.entries number) }
 {
     if shard.keeps {
         return Some(shard.journal.get(number as usize)?.feeder);
+    }
+    if shard.counts.len() > 1 {
+        return Some(*shard.by.get(number as usize)?);
     }
     if number < shard.many { Some(0) } else { None }
 }

@@ -2,17 +2,18 @@
 
 use crate::{Receipt, ShardFault, VerdictChange};
 
-/// Hooks that are called while a feeder holds a shard's lock, or a shard of its own, and after it has released it. Where
-/// `inside` or `changed` calls the auditor for a register of a locked shard, the call waits for ever.
+/// Hooks that are called while a feeder holds a shard's lock, and after it has released it. Where `inside` or `changed`
+/// calls the auditor for a register of a locked shard, the call waits for ever. A `LoneAuditor` has no lock, since its
+/// thread has it for itself, and calls the hooks in the same order.
 pub trait Gate: Sync {
-    /// Called once while the feeder holds the shard's lock.
+    /// Called once while the feeder holds the shard's lock, before the call is carried out.
     fn inside(&self, shard: u32, feeder: u32);
 
     /// Called while the feeder still holds the shard's lock, once for each change of a verdict that its edit made: so
     /// the changes in a shard come in the order of its journal.
     fn changed(&self, _feeder: u32, _change: &VerdictChange) {}
 
-    /// Called once after the feeder has released the lock.
+    /// Called once after the feeder has released the lock; where there is none, after the call was carried out.
     fn outside(&self, feeder: u32);
 }
 

@@ -1,6 +1,6 @@
 //! Laws of journals, passes and closing, which hold of any plan. Each is proved, and does nothing.
 
-ghost use Rattle.std.specs.Prelude.{◌≡◌, ◌%◌, ℕ, List, [], ◌++◌, map, Some, All, filter, ◌≢◌, ◌<◌, ◌∷◌, Option, length, ◌≤◌, IfSome, IsSomeAnd, Contains};
+ghost use Rattle.std.specs.Prelude.{◌≡◌, ◌%◌, ℕ, List, [], ◌++◌, map, Some, All, filter, ◌≢◌, ◌<◌, ◌∷◌, Option, length, ◌≤◌, IfSome, IsSomeAnd, Contains, replicate};
 ghost use Rattle.std.specs.List.{AllPairs, slice_get};
 ghost use Rattle.intervals.specs.Terms.{ClaimModel, unedited};
 ghost use Rattle.intervals.specs.Refusal.{standing};
@@ -61,32 +61,40 @@ pub fn a_lone_feeder_has_all_entries()
         → IsLive plan pass pass' register answer → answer.number ≡ length (own_entries pass (register % plan.shards)) }
 {}
 
-/// What a lone feeder enters and asks is what it would with the pass of an auditor that has these journals: an edit that was
-/// entered was submitted and told, a refusal is one of the auditor's, and an answer is live.
-pub fn a_lone_feeder_is_served_as_with_a_pass()
-    ensures submitted { (plan : Plan) (journals : List (List Entry)) (register : RegId) (edit : Edit) (receipt : Receipt)
-        → AreJournals plan journals → IsEnteredAlone plan journals register edit receipt
-        → IsSubmitted plan (pass_alone plan journals) register edit receipt }
-    ensures told { (plan : Plan) (journals : List (List Entry)) (register : RegId) (edit : Edit) (receipt : Receipt)
-        → AreJournals plan journals → IsEnteredAlone plan journals register edit receipt
-        → pass_alone plan (with_entry journals register edit receipt) ≡ entered (pass_alone plan journals) register edit receipt }
-    ensures refused { (plan : Plan) (journals : List (List Entry)) (register : ℕ) (fault : ShardFault)
-        → AreJournals plan journals → IsRefusalAlone plan register fault → IsRefusal plan (pass_alone plan journals) register fault }
-    ensures live { (plan : Plan) (journals : List (List Entry)) (register : ℕ) (answer : Answer)
-        → AreJournals plan journals → IsStanding plan register (journal_in journals (register % plan.shards)) answer
-        → IsLive plan (pass_alone plan journals) (pass_alone plan journals) register answer }
+/// What a feeder without locks enters and asks is what it would with the pass of an auditor that has these journals: an
+/// edit that was entered was submitted and told, a refusal is one of the auditor's, and an answer is live. What one feeder
+/// enters is no other's own, and before any edit the pass is a new one.
+pub fn a_feeder_alone_is_served_as_with_a_pass()
+    ensures of_plan { (plan : Plan) (journals : List (List Entry)) (feeder : ℕ)
+        → AreJournals plan journals → feeder < plan.feeders → IsPassOf plan (pass_alone plan feeder journals) }
+    ensures submitted { (plan : Plan) (journals : List (List Entry)) (feeder : ℕ) (register : RegId) (edit : Edit) (receipt : Receipt)
+        → AreJournals plan journals → IsEnteredAlone plan journals feeder register edit receipt
+        → IsSubmitted plan (pass_alone plan feeder journals) register edit receipt }
+    ensures told { (plan : Plan) (journals : List (List Entry)) (feeder : ℕ) (register : RegId) (edit : Edit) (receipt : Receipt)
+        → AreJournals plan journals → IsEnteredAlone plan journals feeder register edit receipt
+        → pass_alone plan feeder (with_entry journals feeder register edit receipt) ≡ entered (pass_alone plan feeder journals) register edit receipt }
+    ensures others { (plan : Plan) (journals : List (List Entry)) (feeder : ℕ) (register : RegId) (edit : Edit) (receipt : Receipt) (other at : ℕ)
+        → other ≢ feeder → AreJournals plan journals → IsEnteredAlone plan journals feeder register edit receipt
+        → own_entries (pass_alone plan other (with_entry journals feeder register edit receipt)) at ≡ own_entries (pass_alone plan other journals) at }
+    ensures refused { (plan : Plan) (journals : List (List Entry)) (feeder register : ℕ) (fault : ShardFault)
+        → AreJournals plan journals → feeder < plan.feeders → IsRefusalAlone plan register fault
+        → IsRefusal plan (pass_alone plan feeder journals) register fault }
+    ensures live { (plan : Plan) (journals : List (List Entry)) (feeder register : ℕ) (answer : Answer)
+        → AreJournals plan journals → feeder < plan.feeders → IsStanding plan register (journal_in journals (register % plan.shards)) answer
+        → IsLive plan (pass_alone plan feeder journals) (pass_alone plan feeder journals) register answer }
+    ensures fresh { (plan : Plan) (feeder : ℕ) → pass_alone plan feeder (replicate plan.shards []) ≡ new_pass plan feeder }
 {}
 
-/// The edits of a register in the journal of its shard are those that a lone feeder submitted for it, in their order: an
-/// edit that was entered comes after those of its register, and those of every other register are as before.
-pub fn a_lone_feeders_edits_are_as_submitted()
-    ensures own { (plan : Plan) (journals : List (List Entry)) (register : RegId) (edit : Edit) (receipt : Receipt)
-        → AreJournals plan journals → IsEnteredAlone plan journals register edit receipt
-        → edits_of register.0 (journal_in (with_entry journals register edit receipt) (register.0 % plan.shards))
+/// The edits of a register in the journal of its shard are those that feeders without locks submitted for it, in their
+/// order: an edit that was entered comes after those of its register, and those of every other register are as before.
+pub fn an_edit_alone_is_entered_as_submitted()
+    ensures own { (plan : Plan) (journals : List (List Entry)) (feeder : ℕ) (register : RegId) (edit : Edit) (receipt : Receipt)
+        → AreJournals plan journals → IsEnteredAlone plan journals feeder register edit receipt
+        → edits_of register.0 (journal_in (with_entry journals feeder register edit receipt) (register.0 % plan.shards))
         ≡ edits_of register.0 (journal_in journals (register.0 % plan.shards)) ++ edit ∷ [] }
-    ensures others { (plan : Plan) (journals : List (List Entry)) (register : RegId) (edit : Edit) (receipt : Receipt) (other : ℕ)
-        → AreJournals plan journals → IsEnteredAlone plan journals register edit receipt → other ≢ register.0
-        → edits_of other (journal_in (with_entry journals register edit receipt) (other % plan.shards))
+    ensures others { (plan : Plan) (journals : List (List Entry)) (feeder : ℕ) (register : RegId) (edit : Edit) (receipt : Receipt) (other : ℕ)
+        → AreJournals plan journals → IsEnteredAlone plan journals feeder register edit receipt → other ≢ register.0
+        → edits_of other (journal_in (with_entry journals feeder register edit receipt) (other % plan.shards))
         ≡ edits_of other (journal_in journals (other % plan.shards)) }
 {}
 

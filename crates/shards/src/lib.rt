@@ -1,5 +1,5 @@
-//! Shards: the registers of a tower, with a journal of the edits that were answered in each: under locks for several
-//! feeders, or as a lone feeder's own.
+//! Shards: the registers of a tower, with a journal of the edits that were answered in each: under locks for feeders in
+//! threads, or without for feeders that take turns on one thread.
 //!
 //! An auditor is opened for a tower, a number of shards and a number of feeders. Register `r` is in
 //! shard `r` modulo the number of shards. Each feeder has a pass, with which it submits edits and asks
@@ -11,17 +11,19 @@
 //!     other.learn(pass.seen())?                                 // the other pass now knows of that entry
 //!     auditor.finish(passes)?                                   // the journals and the books
 //!
-//! A lone feeder needs no pass and no lock, and its journals are there in proofs alone:
+//! One thread that has an auditor for itself needs no pass and no lock, and its journals are there in proofs alone. Each
+//! call names the feeder whose turn it is:
 //!
-//!     let mut auditor = LoneAuditor::open(alloc, &tower, 2)?;
-//!     auditor.submit(&NoGate, RegId(0), &edit)?;                // number 0, Accepted { holds: true }
-//!     auditor.standing(&NoGate, RegId(0))?;                     // holds, 1 operation
-//!     auditor.close()                                           // the books, and the changes of verdicts
+//!     let mut auditor = LoneAuditor::open(alloc, &tower, 2, 2)?;
+//!     auditor.submit(&NoGate, 0, RegId(0), &edit)?;             // number 0, Accepted { holds: true }
+//!     auditor.standing(&NoGate, 1, RegId(0))?;                  // holds, 1 operation
+//!     auditor.submitted(0, 0);                                  // 1
+//!     auditor.close()                                           // the books, the feeders and the changes of verdicts
 //!
 //! Begin with `specs/Journal.antt`: a legal journal, in which each entry has the reply of its register as the
 //! entries before leave it. `specs/Pass.antt` has what a feeder knows, and which journals are in keeping with
 //! that; `specs/Steps.antt` what an edit and a question come to; `specs/Merge.antt` and `specs/Closing.antt`
-//! what is left at the end; `specs/Alone.antt` what a lone feeder's calls come to. `laws.rt` has what follows from these
+//! what is left at the end; `specs/Alone.antt` what calls without locks come to. `laws.rt` has what follows from these
 //! definitions.
 //!
 //! The value under a shard's lock is a `ShardState`: its invariant says that the journal is legal and each entry of

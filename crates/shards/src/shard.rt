@@ -1,6 +1,6 @@
 //! The registers of one shard, with the journal of their edits.
 
-ghost use Rattle.std.specs.Prelude.{◌≡◌, ◌<◌, ◌%◌, ◌/◌, ◌++◌, ◌∷◌, [], ℕ, ◌↔◌, IfOk, IfErr, IfSome, IsNone, IsTrue, OnOk, OnErr, length, replicate, map, option_map, option_to_list, Some, None, vec_len, vec_capacity};
+ghost use Rattle.std.specs.Prelude.{◌≡◌, ◌<◌, ◌%◌, ◌/◌, ◌++◌, ◌∷◌, [], ℕ, false, ◌↔◌, IfOk, IfErr, IfSome, IsNone, IsTrue, OnOk, OnErr, length, replicate, map, option_map, option_to_list, Some, None, vec_len, vec_capacity};
 ghost use Rattle.std.specs.Option.{option_map_or};
 ghost use Rattle.std.specs.List.{slice_get};
 ghost use Rattle.shards.specs.declared.fault.ShardFault.TheVariants.{Memory};
@@ -21,8 +21,9 @@ use register_book::{Fault, RegisterBook, Witness};
 use std::alloc::{AllocError, Global};
 use tower_file::Tower;
 
-/// One shard. Book `k` is that of register `k * shards + at`. Count `f` is how many entries are by feeder `f`. All entries
-/// are there in proofs alone; the journal has them where it is kept, else it is empty.
+/// One shard. Book `k` is that of register `k * shards + at`. Count `f` is how many entries are by feeder `f`, and `many`
+/// how many there are in all. All entries are there in proofs alone. Where the shard `keeps` its journal, the journal has
+/// them; else it is empty, and `by` has the feeder of each entry, in order, if there are several feeders.
 #[derive(Drop)]
 pub struct Shard<'t> {
     pub at: u32,
@@ -34,6 +35,7 @@ pub struct Shard<'t> {
     pub entries: GhostEntries<'t>,
     pub keeps: bool,
     pub journal: Vec<Entry<'t>>,
+    pub by: Vec<u32>,
 }
 
 impl<'t> Shard<'t> {
@@ -62,6 +64,7 @@ impl<'t> Shard<'t> {
             entries: GhostEntries::new(),
             keeps,
             journal: Vec::new(alloc),
+            by: Vec::new(alloc),
         })
     }
 
@@ -89,7 +92,8 @@ impl<'t> Shard<'t> {
         let Some(many) = number.checked_add(1) else {
             return Err(ShardFault::Memory);
         };
-        make_room(&mut self.journal, self.keeps)?;
+        let feeders = self.counts.len();
+        make_room(&mut self.journal, &mut self.by, self.keeps, feeders)?;
         self.changes.reserve(1)?;
         let slot = (register.0 / self.shards) as usize;
         let book = &mut self.books[slot];
@@ -103,7 +107,7 @@ impl<'t> Shard<'t> {
             reply,
         };
         self.entries.add(&entry);
-        keep(&mut self.journal, self.keeps, &entry);
+        keep(&mut self.journal, &mut self.by, self.keeps, feeders, &entry);
         note(&mut self.changes, change);
         self.counts[feeder as usize] += 1;
         self.many = many;
@@ -152,21 +156,43 @@ impl<'t> Shard<'t> {
     }
 }
 
-/// Makes room for an entry in a journal that is kept.
-fn make_room(journal: &mut Vec<Entry>, keeps: bool) -> Result<(), AllocError>
-    ensures same { journal.new.items ≡ journal.old.items }
-    ensures room { OnOk result (IsTrue keeps → vec_len journal.new < vec_capacity journal.new) }
+/// Makes room for an entry in a journal that is kept, else for its feeder if there are several.
+fn make_room(
+    journal: &mut Vec<Entry>,
+    by: &mut Vec<u32>,
+    keeps: bool,
+    feeders: usize,
+) -> Result<(), AllocError>
+    ensures same { (journal.new.items ≡ journal.old.items) × (by.new.items ≡ by.old.items) }
+    ensures journal { OnOk result (IsTrue keeps → vec_len journal.new < vec_capacity journal.new) }
+    ensures by { OnOk result (keeps ≡ false → 1 < feeders → vec_len by.new < vec_capacity by.new) }
 {
-    if keeps { journal.reserve(1) } else { Ok(()) }
+    if keeps {
+        journal.reserve(1)
+    } else if feeders > 1 {
+        by.reserve(1)
+    } else {
+        Ok(())
+    }
 }
 
-/// Adds an entry to a journal that is kept, into room that is there for it.
-fn keep<'t>(journal: &mut Vec<Entry<'t>>, keeps: bool, entry: &Entry<'t>)
-    requires room { IsTrue keeps → vec_len journal.old < vec_capacity journal.old }
-    ensures { IsTrue keeps → journal.new.items ≡ journal.old.items ++ entry.now ∷ [] }
+/// Adds an entry to a journal that is kept, else its feeder if there are several, into room that is there for it.
+fn keep<'t>(
+    journal: &mut Vec<Entry<'t>>,
+    by: &mut Vec<u32>,
+    keeps: bool,
+    feeders: usize,
+    entry: &Entry<'t>,
+)
+    requires journal { IsTrue keeps → vec_len journal.old < vec_capacity journal.old }
+    requires by { keeps ≡ false → 1 < feeders → vec_len by.old < vec_capacity by.old }
+    ensures journal { IsTrue keeps → journal.new.items ≡ journal.old.items ++ entry.now ∷ [] }
+    ensures by { keeps ≡ false → 1 < feeders → by.new.items ≡ by.old.items ++ entry.now.feeder ∷ [] }
 {
     if keeps {
         journal.push_reserved(*entry);
+    } else if feeders > 1 {
+        by.push_reserved(entry.feeder);
     }
 }
 

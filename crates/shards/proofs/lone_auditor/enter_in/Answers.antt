@@ -11,27 +11,27 @@ enter-answered-requires-clause-here g c =
 pub returns-clause-alone : goal.returns-clause-alone
 returns-clause-alone g c =
     let e = c.enter-answered.ensures in
-    alone_after g.O.Opening.plan c.args.shards.now _ c.args.register c.args.edit.now c.enter-answered.result _ c.enter-answered.new.self c.requires.alone
+    alone_after g.O.Opening.plan c.args.shards.now _ c.args.feeder c.args.register c.args.edit.now c.enter-answered.result _ c.enter-answered.new.self c.requires.alone
     (shard_got g.O.Opening.plan c.args.shards.now c.args.register.0 c.index-shards-at.result c.requires.alone)
     (record { kept = e.kept; journal = e.journal; replied = e.answered; receipt = e.receipt; change = e.change; err = e.err })
 
 pub returns-clause-entered : goal.returns-clause-entered
 returns-clause-entered g c =
     let e = c.enter-answered.ensures in
-    entered_after g.O.Opening.plan c.args.shards.now c.args.register c.args.edit.now c.enter-answered.result _ c.enter-answered.new.self c.requires.alone
+    entered_after g.O.Opening.plan c.args.shards.now c.args.feeder c.args.register c.args.edit.now c.enter-answered.result _ c.enter-answered.new.self c.requires.feeder c.requires.alone
     (shard_got g.O.Opening.plan c.args.shards.now c.args.register.0 c.index-shards-at.result c.requires.alone)
     (record { kept = e.kept; journal = e.journal; replied = e.answered; receipt = e.receipt; change = e.change; err = e.err })
 
 pub returns-clause-journals : goal.returns-clause-journals
 returns-clause-journals g c =
     let e = c.enter-answered.ensures in
-    journals_after g.O.Opening.plan c.args.shards.now _ c.args.register c.args.edit.now c.enter-answered.result _ c.enter-answered.new.self
+    journals_after g.O.Opening.plan c.args.shards.now _ c.args.feeder c.args.register c.args.edit.now c.enter-answered.result _ c.enter-answered.new.self
     (shard_got g.O.Opening.plan c.args.shards.now c.args.register.0 c.index-shards-at.result c.requires.alone)
     (record { kept = e.kept; journal = e.journal; replied = e.answered; receipt = e.receipt; change = e.change; err = e.err })
 
 pub returns-clause-err : goal.returns-clause-err
 returns-clause-err g c =
     let e = c.enter-answered.ensures in
-    journals_as_before g.O.Opening.plan c.args.shards.now _ c.args.register c.args.edit.now c.enter-answered.result _ c.enter-answered.new.self
+    journals_as_before g.O.Opening.plan c.args.shards.now _ c.args.feeder c.args.register c.args.edit.now c.enter-answered.result _ c.enter-answered.new.self
     (shard_got g.O.Opening.plan c.args.shards.now c.args.register.0 c.index-shards-at.result c.requires.alone)
     (record { kept = e.kept; journal = e.journal; replied = e.answered; receipt = e.receipt; change = e.change; err = e.err })

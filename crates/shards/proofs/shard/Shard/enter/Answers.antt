@@ -39,7 +39,8 @@ returns-clause-kept g c =
     (returns-clause-change g c) c.requires.kept.changes c.add.ensures
     (c.note.ensures ∙ ap (λ (told : List VerdictChange). told ++ option_to_list c.change_to-change.result) c.reserve.ensures.items))
     (omega arith)
-    refl (λ keeps. c.keep.ensures keeps ∙ ap (λ (journal : List Entry). journal ++ entry ∷ []) c.make_room.ensures.same)
+    refl (λ keeps. c.keep.ensures.journal keeps ∙ ap (λ (journal : List Entry). journal ++ entry ∷ []) c.make_room.ensures.same.0)
+    (λ notes. c.keep.ensures.by notes.0 (omega (arith, notes.1, c.len-feeders.ensures)) ∙ ap (λ (by : List ℕ). by ++ c.args.feeder ∷ []) c.make_room.ensures.same.1)
 
 pub returns-clause-answered : goal.returns-clause-answered
 returns-clause-answered g c =
