@@ -56,7 +56,7 @@ use Rattle.records.specs.Grammar.{AreFields, AreValues, IsOneValue, IsRecord, al
 use Rattle.records.specs.Log.{answer_symbols, break_symbols, broken_symbols, met_by, met_places, placed_break, placed_refusal, refusal_end, refusal_symbols, refused_symbols}
 use Rattle.records.specs.Notice.{change_end, change_symbols, changed_symbols, ended_symbols, fault_field, fault_ids_symbols, notice_symbols, optional_fault_symbols}
 use Rattle.records.specs.Operation.{act_word, op_spot, op_symbols}
-use Rattle.records.specs.Register.{doubt_symbols, register_symbols, witness_symbols}
+use Rattle.records.specs.Register.{doubt_list, doubt_symbols, register_symbols, witness_symbols}
 use Rattle.records.specs.Run.{AreRecordsOfRun, RunNames, asked_records, broken_records, has_record, line_record, log_records, logs_records, records_of, register_record, registers_records, totals_of, what_record}
 use Rattle.records.specs.Spot.{byte_symbol, holder_record, holder_spot, known_symbol, line_symbol, spot_record, spot_symbols}
 use Rattle.records.specs.Symbol.{Symbol, begin_list, begin_record, end_list, end_record, flag, key, nothing, number, place, text, word}
@@ -212,7 +212,7 @@ regrouped : (fault shown rests : List Symbol) (left : Symbol)
 regrouped fault shown rests left = simp append_assoc
 
 found_is : {depth : ℕ} (places : PlacesModel) (n : ℕ) (level name : List ℕ) (kind : Kind) (operations : ℕ) (found : Option Witness) (culprit : Bool) (allowed : List Allowed) (left_out rests_on : List (ℕ × ℕ)) → IsRecord (suc (suc (suc (suc depth)))) (register_symbols places n level name (record { kind = kind; operations = operations; witness = found }) culprit allowed left_out rests_on)
-unfolding register_symbols witness_symbols doubt_symbols type_symbols number_symbols text_field word_symbols flag_symbols list_symbols end_symbols
+unfolding register_symbols witness_symbols doubt_symbols doubt_list type_symbols number_symbols text_field word_symbols flag_symbols list_symbols end_symbols
 found_is {depth} places n level name kind operations None culprit allowed left_out rests_on =
     subst (λ (tail : List Symbol). IsRecord (suc (suc (suc (suc depth)))) (begin_record ∷ key (codes "t") ∷ word (codes "register") ∷ key (codes "number") ∷ number (decimal n) ∷ key (codes "level") ∷ text level ∷ key (codes "name") ∷ text name ∷ key (codes "kind") ∷ word (kind_word kind) ∷ key (codes "holds") ∷ flag true ∷ key (codes "operations") ∷ number (decimal operations) ∷ key (codes "culprit") ∷ flag culprit ∷ key (codes "fault") ∷ nothing ∷ key (codes "witness") ∷ begin_list ∷ end_list ∷ key (codes "left_out") ∷ number (decimal (length left_out)) ∷ key (codes "rests_on") ∷ begin_list ∷ tail))
     (append_assoc (map (λ at. place at.0 at.1) rests_on) (end_list ∷ []) (end_record ∷ []))
@@ -446,7 +446,7 @@ regrouped_end : (fault rests : List Symbol) (left line : Symbol)
 regrouped_end fault rests left line = simp append_assoc
 
 change_is : {depth : ℕ} (name : List ℕ) (feeder event line : ℕ) (change : VerdictChange) (left_out rests_on : List (ℕ × ℕ)) → IsRecord (suc (suc depth)) (change_symbols name feeder event change ++ change_end left_out rests_on line)
-unfolding change_symbols change_end changed_symbols fault_field type_symbols place_symbols text_field word_symbols flag_symbols number_symbols list_symbols
+unfolding change_symbols change_end doubt_list changed_symbols fault_field type_symbols place_symbols text_field word_symbols flag_symbols number_symbols list_symbols
 change_is {depth} name feeder event line change left_out rests_on =
     subst (λ (tail : List Symbol). IsRecord (suc (suc depth)) (begin_record ∷ key (codes "t") ∷ word (codes "change") ∷ key (codes "id") ∷ place feeder event ∷ key (codes "register") ∷ text name ∷ key (codes "kind") ∷ word (kind_word change.kind) ∷ key (codes "holds") ∷ flag change.holds ∷ key (codes "operations") ∷ number (decimal change.operations) ∷ key (codes "fault") ∷ tail))
     (regrouped_end (optional_fault_symbols change.fault) (map (λ at. place at.0 at.1) rests_on) (number (decimal (length left_out))) (number (decimal line)))

@@ -57,7 +57,7 @@ use Rattle.records.specs.Fault.{fault_symbols, side_value}
 use Rattle.records.specs.Field.{end_symbols, flag_symbols, list_symbols, number_symbols, place_symbols, text_field, type_symbols, word_symbols}
 use Rattle.records.specs.Log.{answer_symbols, break_symbols, placed_break, placed_refusal, refusal_symbols}
 use Rattle.records.specs.Operation.{op_spot, op_symbols}
-use Rattle.records.specs.Register.{doubt_symbols, register_symbols, witness_symbols}
+use Rattle.records.specs.Register.{doubt_list, doubt_symbols, register_symbols, witness_symbols}
 use Rattle.records.specs.Run.{AreRecordsOfRun, RunNames, asked_records, broken_records, log_records, logs_records, records_of, register_record, line_record, registers_records, totals_of, what_record}
 use Rattle.records.specs.Spot.{byte_symbol, line_symbol, spot_symbols}
 use Rattle.records.specs.Symbol.{Symbol, begin_list, begin_record, end_list, end_record, key, nothing, number, place, text, word}
@@ -150,7 +150,7 @@ no_parts [] = refl
 no_parts (at ∷ elements) = no_parts elements
 
 doubt_parts : (left_out rests_on : List (ℕ × ℕ)) → told_parts (doubt_symbols left_out rests_on) ≡ []
-unfolding doubt_symbols number_symbols list_symbols end_symbols
+unfolding doubt_symbols doubt_list number_symbols list_symbols end_symbols
 doubt_parts left_out rests_on = no_parts rests_on
 
 shown_parts : (places : PlacesModel) (ops : List Op) (left_out rests_on : List (ℕ × ℕ)) → told_parts (flat_map (op_symbols places) ops ++ end_list ∷ doubt_symbols left_out rests_on) ≡ flat_map part_lines ops
@@ -241,7 +241,7 @@ no_key name [] = refl
 no_key name (at ∷ elements) = no_key name elements
 
 none_told : (left_out rests_on : List (ℕ × ℕ)) → told_fault (nothing ∷ key (codes "witness") ∷ begin_list ∷ end_list ∷ doubt_symbols left_out rests_on) ++ told_parts (begin_list ∷ end_list ∷ doubt_symbols left_out rests_on) ≡ []
-unfolding doubt_symbols number_symbols list_symbols end_symbols
+unfolding doubt_symbols doubt_list number_symbols list_symbols end_symbols
 none_told left_out rests_on = rw (no_key (codes "kind") rests_on) (no_parts rests_on)
 
 found_told : (places : PlacesModel) (n : ℕ) (level name : List ℕ) (kind : Kind) (operations : ℕ) (found : Option Witness) (culprit : Bool) (allowed : List Allowed) (left_out rests_on : List (ℕ × ℕ)) → told_section (register_symbols places n level name (record { kind = kind; operations = operations; witness = found }) culprit allowed left_out rests_on) ≡ register_line name kind (is_none found) operations ++ option_map_or witness_text found []

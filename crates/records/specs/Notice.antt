@@ -1,5 +1,5 @@
 -- The record of what a watcher is told.
-use Rattle.std.specs.Prelude.{ℕ, List, [], ◌∷◌, ◌++◌, Option, Some, None, codes, length, map}
+use Rattle.std.specs.Prelude.{ℕ, List, [], ◌∷◌, ◌++◌, Option, Some, None, codes}
 use Rattle.tower_file.specs.Contents.{Register}
 use Rattle.register_book.specs.declared.fault.Fault.{Fault}
 use Rattle.shards.specs.declared.entry.VerdictChange.{VerdictChange}
@@ -7,9 +7,10 @@ use Rattle.logs.specs.declared.notice.Notice.{Notice}
 use Rattle.logs.specs.declared.notice.Notice.TheVariants.{Changed, Refused, Broke, Ended}
 use Rattle.phrases.specs.Names.{kind_word, register_name}
 use Rattle.records.specs.Fault.{fault_head}
-use Rattle.records.specs.Field.{flag_symbols, list_symbols, number_symbols, place_symbols, text_field, type_symbols, word_symbols}
+use Rattle.records.specs.Field.{flag_symbols, number_symbols, place_symbols, text_field, type_symbols, word_symbols}
 use Rattle.records.specs.Log.{broken_symbols, refused_symbols}
-use Rattle.records.specs.Symbol.{Symbol, end_list, end_record, key, nothing, place}
+use Rattle.records.specs.Register.{doubt_list}
+use Rattle.records.specs.Symbol.{Symbol, end_list, end_record, key, nothing}
 
 -- the record of a fault by its ids alone
 abbrev pub fault_ids_symbols : Fault → List Symbol
@@ -35,12 +36,10 @@ unfoldable pub change_symbols : List ℕ → ℕ → ℕ → VerdictChange → L
 change_symbols name feeder event change =
     type_symbols (codes "change") ++ place_symbols feeder event ++ changed_symbols name change ++ fault_field change.fault
 
--- how many elements of the register of a change were left out, those of them on which its failure rests, and the line of
--- the element that made the change, with which its record ends
+-- what is in doubt of the register of a change, and the line of the element that made the change, with which its record
+-- ends
 unfoldable pub change_end : List (ℕ × ℕ) → List (ℕ × ℕ) → ℕ → List Symbol
-change_end left_out rests_on line =
-    number_symbols (codes "left_out") (length left_out) ++ list_symbols (codes "rests_on") ++ map (λ at. place at.0 at.1) rests_on
-    ++ (end_list ∷ []) ++ number_symbols (codes "line") line ++ end_record ∷ []
+change_end left_out rests_on line = doubt_list left_out rests_on ++ (end_list ∷ []) ++ number_symbols (codes "line") line ++ end_record ∷ []
 
 -- the record of the end of a trace: its number, and how many elements it had
 unfoldable pub ended_symbols : ℕ → ℕ → List Symbol

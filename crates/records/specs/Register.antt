@@ -34,10 +34,14 @@ verdict_symbols finding = word_symbols (codes "kind") (kind_word finding.kind) +
 abbrev pub blame_symbols : ℕ → Bool → List Symbol
 blame_symbols operations culprit = number_symbols (codes "operations") operations ++ flag_symbols (codes "culprit") culprit
 
--- how many elements of a register were left out, and those of them on which its failure rests, with which its record ends
+-- how many elements of a register were left out, and those of them on which its failure rests, in a list that is still
+-- open
+unfoldable pub doubt_list : List (ℕ × ℕ) → List (ℕ × ℕ) → List Symbol
+doubt_list left_out rests_on = number_symbols (codes "left_out") (length left_out) ++ list_symbols (codes "rests_on") ++ map (λ at. place at.0 at.1) rests_on
+
+-- what is in doubt of a register, with which its record ends
 unfoldable pub doubt_symbols : List (ℕ × ℕ) → List (ℕ × ℕ) → List Symbol
-doubt_symbols left_out rests_on =
-    number_symbols (codes "left_out") (length left_out) ++ list_symbols (codes "rests_on") ++ map (λ at. place at.0 at.1) rests_on ++ end_symbols
+doubt_symbols left_out rests_on = doubt_list left_out rests_on ++ end_symbols
 
 -- the record of a register
 unfoldable pub register_symbols : PlacesModel → ℕ → List ℕ → List ℕ → Finding → Bool → List Allowed → List (ℕ × ℕ) → List (ℕ × ℕ) → List Symbol

@@ -7,10 +7,10 @@ ghost use Rattle.records.specs.Notice.{change_end, change_symbols, changed_symbo
 ghost use Rattle.records.specs.Symbol.{symbols_of};
 
 use crate::fault::add_fault_head;
-use crate::field::{add_flag, add_list, add_number, add_place, add_text, add_type, add_word};
+use crate::field::{add_flag, add_number, add_place, add_text, add_type, add_word};
 use crate::line::{Notation, push_record};
 use crate::log::{add_broken, add_refused};
-use crate::register::add_elements;
+use crate::register::add_doubt_list;
 use crate::token::RecordToken;
 use logs::Notice;
 use phrases::{kind_word, name_of};
@@ -97,9 +97,7 @@ fn add_change_end<'a>(
 ) -> Result<(), AllocError>
     ensures { OnOk result (symbols_of tokens.new.items ≡ symbols_of tokens.old.items ++ change_end left_out.now rests_on.now line) }
 {
-    add_number(tokens, "left_out", left_out.len() as u64)?;
-    add_list(tokens, "rests_on")?;
-    add_elements(tokens, rests_on)?;
+    add_doubt_list(tokens, left_out, rests_on)?;
     tokens.push(RecordToken::EndList)?;
     add_number(tokens, "line", line)?;
     tokens.push(RecordToken::EndRecord)?;

@@ -1,7 +1,7 @@
 //! The records of registers.
 
 ghost use Rattle.std.specs.Prelude.{◌≡◌, ◌++◌, OnOk, map};
-ghost use Rattle.records.specs.Register.{blame_symbols, doubt_symbols, found_symbols, register_names, register_symbols, verdict_symbols, witness_symbols};
+ghost use Rattle.records.specs.Register.{blame_symbols, doubt_list, doubt_symbols, found_symbols, register_names, register_symbols, verdict_symbols, witness_symbols};
 ghost use Rattle.records.specs.Symbol.{place, symbols_of};
 
 use crate::allowed::Allowed;
@@ -120,8 +120,7 @@ fn add_witness<'a>(
     Ok(())
 }
 
-/// Adds how many elements of a register were left out, and those of them on which its failure rests, with which its record
-/// ends.
+/// Adds what is in doubt of a register, with which its record ends.
 #[tactic(auto, unfolding(crate::specs::Register::doubt_symbols))]
 pub fn add_doubt<'a>(
     tokens: &mut Vec<RecordToken<'a>>,
@@ -130,14 +129,27 @@ pub fn add_doubt<'a>(
 ) -> Result<(), AllocError>
     ensures { OnOk result (symbols_of tokens.new.items ≡ symbols_of tokens.old.items ++ doubt_symbols left_out.now rests_on.now) }
 {
-    add_number(tokens, "left_out", left_out.len() as u64)?;
-    add_list(tokens, "rests_on")?;
-    add_elements(tokens, rests_on)?;
+    add_doubt_list(tokens, left_out, rests_on)?;
     add_end(tokens)
 }
 
+/// Adds how many elements of a register were left out, and those of them on which its failure rests, in a list that is
+/// still open.
+#[tactic(auto, unfolding(crate::specs::Register::doubt_list))]
+pub fn add_doubt_list<'a>(
+    tokens: &mut Vec<RecordToken<'a>>,
+    left_out: &[(usize, u64)],
+    rests_on: &[(usize, u64)],
+) -> Result<(), AllocError>
+    ensures { OnOk result (symbols_of tokens.new.items ≡ symbols_of tokens.old.items ++ doubt_list left_out.now rests_on.now) }
+{
+    add_number(tokens, "left_out", left_out.len() as u64)?;
+    add_list(tokens, "rests_on")?;
+    add_elements(tokens, rests_on)
+}
+
 /// Adds elements, each by the number of its trace and its place there.
-pub fn add_elements<'a>(
+fn add_elements<'a>(
     tokens: &mut Vec<RecordToken<'a>>,
     elements: &[(usize, u64)],
 ) -> Result<(), AllocError>
