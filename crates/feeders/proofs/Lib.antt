@@ -20,6 +20,7 @@ pub mod Split
 pub mod Finished
 -- a lone feeder, which has no pass
 pub mod Served
+pub mod Turns
 -- the law of texts: each text of an operation that stands after a run is an element of its feeder's trace
 pub mod TextsStanding
 pub mod TextsElements

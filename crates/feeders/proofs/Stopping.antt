@@ -12,6 +12,7 @@ use Rattle.logs.specs.Steps.{StepResult}
 use Rattle.feeders.specs.declared.fault.RunFault.{RunFault}
 use Rattle.feeders.specs.declared.fault.RunFault.TheVariants.{Memory, Shard}
 use Rattle.feeders.specs.declared.outcome.FeederOutcome.{FeederOutcome}
+use Rattle.feeders.specs.Access.{AccessModel}
 use Rattle.feeders.specs.Ending.{IsEndedBy, MayEnd, MayStop, ended_by}
 use Rattle.feeders.specs.Progress.{GoesOn, HasDone, HasSameLines, IsFirstFault}
 use Rattle.feeders.proofs.Split.{all_but_first}
@@ -26,11 +27,11 @@ refusal_stops plan pass register (shards.Stranger shard feeder number) of known 
 refusal_stops plan pass register shards.ForeignPass of known is = absurd (is of)
 
 -- a feeder stops where the register of its step refuses the call, and its pass is as it was
-pub may_stop : (plan : Plan) (old new : PassModel) (log log' : Log) (register : ℕ) (result : Result (Unit {0}) RunFault) → IfErr result (IsEndedBy plan old register) → OnErr result ((log' ≡ log) × (new ≡ old))
-    → IfErr result (λ fault. IsPassOf plan old → register < length plan.claims → MayStop plan new fault)
+pub may_stop : (plan : Plan) (old new : AccessModel) (log log' : Log) (register : ℕ) (result : Result (Unit {0}) RunFault) → IfErr result (IsEndedBy plan old.pass register) → OnErr result ((log' ≡ log) × (new ≡ old))
+    → IfErr result (λ fault. IsPassOf plan old.pass → register < length plan.claims → MayStop plan new.pass fault)
 may_stop plan old new log log' register (Ok done) is kept = tt
 may_stop plan old new log log' register (Err fault) is kept =
-    λ of known. subst (λ (pass : PassModel). MayStop plan pass fault) (sym kept.1) (subst (MayStop plan old) (sym is.2) (refusal_stops plan old register is.0 of known is.1))
+    λ of known. subst (λ (access : AccessModel). MayStop plan access.pass fault) (sym kept.1) (subst (MayStop plan old.pass) (sym is.2) (refusal_stops plan old.pass register is.0 of known is.1))
 
 -- what stops a feeder ends its run
 pub stop_ends : (plan : Plan) (pass : PassModel) (fault : RunFault) → MayStop plan pass fault → MayEnd plan fault
@@ -49,10 +50,10 @@ goes_with_room plan pass pass' log roomed log' place step (Ok done) same goes =
     λ start steps at has. goes start steps at (subst (λ (lines : List Line). HasDone plan start pass lines steps) (sym same) has)
 goes_with_room plan pass pass' log roomed log' place step (Err fault) same goes = tt
 
-pub kept_with_room : (pass pass' : PassModel) (log roomed log' : Log) (result : Result (Unit {0}) RunFault) → roomed.lines.items ≡ log.lines.items → roomed.broken ≡ log.broken
-    → OnErr result ((log' ≡ roomed) × (pass' ≡ pass)) → OnErr result (HasSameLines log log' × (pass' ≡ pass))
-kept_with_room pass pass' log roomed log' (Ok done) same broken kept = tt
-kept_with_room pass pass' log roomed log' (Err fault) same broken kept =
+pub kept_with_room : (access access' : AccessModel) (log roomed log' : Log) (result : Result (Unit {0}) RunFault) → roomed.lines.items ≡ log.lines.items → roomed.broken ≡ log.broken
+    → OnErr result ((log' ≡ roomed) × (access' ≡ access)) → OnErr result (HasSameLines log log' × (access' ≡ access))
+kept_with_room access access' log roomed log' (Ok done) same broken kept = tt
+kept_with_room access access' log roomed log' (Err fault) same broken kept =
     (subst (HasSameLines log) (sym kept.0) (record { lines = same; broken = broken }), kept.1)
 
 at_fault : (P : RunFault → Type 0) (before : List FeederOutcome) (fault : RunFault) (rest : List (Result FeederOutcome RunFault)) → All (λ one. IfErr one P) (map Ok before ++ Err fault ∷ rest) → P fault

@@ -1,5 +1,5 @@
 -- A chunk is taken up to the end of the next element, or else to its own end.
-use Rattle.std.proofs.Common.{◌≡◌, ℕ, ◌+◌, ◌-◌, ◌≤◌, ◌<◌, ◌^◌, List, [], ◌∷◌, ◌++◌, length, take, drop, Option, Some, None, Result, Ok, Err, refl, sym, ap, subst, ◌∙◌, arith, length-drop, length-append, vec_len}
+use Rattle.std.proofs.Common.{◌≡◌, ◌⊎◌, inl, inr, ℕ, ◌+◌, ◌-◌, ◌≤◌, ◌<◌, ◌^◌, List, [], ◌∷◌, ◌++◌, length, take, drop, Option, Some, None, Result, Ok, Err, refl, sym, ap, subst, ◌∙◌, arith, length-drop, length-append, vec_len}
 use Rattle.std.specs.Prelude.{MatchOption}
 use Rattle.std.proofs.lemmas.List.{length-take-le}
 use Rattle.edn_reader.specs.Grammar.{ElementModel}
@@ -12,7 +12,7 @@ use Rattle.shards.specs.Pass.{PassModel}
 use Rattle.feeders.specs.declared.intake.Intake.{Intake}
 use Rattle.feeders.specs.declared.tail_buffer.TailBuffer.{TailBuffer}
 use Rattle.feeders.specs.declared.pending.Pending.{Pending}
-use Rattle.feeders.specs.declared.pending.Pending.TheVariants.{Nothing}
+use Rattle.feeders.specs.declared.pending.Pending.TheVariants.{Nothing, Whole, Lent, Paired}
 use Rattle.feeders.specs.declared.progress.Progress.{Progress}
 use Rattle.logs.specs.declared.log.Broken.{Broken}
 use Rattle.logs.specs.Broken.{broken_by}
@@ -294,3 +294,14 @@ used_still piece old new beside settle place can = record {
   taken = omega (arith, ap (λ (s : SplitterModel). s.taken) beside.splitter);
   can = can_beside piece old new beside (omega (arith, place, can.place)) (omega (arith, place, can.counted)) settle can;
 }
+
+-- an element waits, or none does
+pub waits_or_not : (pending : Pending) → (pending ≡ Nothing) ⊎ (count_of pending ≡ 1)
+waits_or_not Nothing = inl refl
+waits_or_not (Whole start) = inr refl
+waits_or_not (Lent item) = inr refl
+waits_or_not (Paired step) = inr refl
+
+-- so many bytes of a chunk were taken, up to the end of an element, which waits, or all of them
+abbrev pub HasHeld : List ℕ → Intake → Intake → ℕ → Type 0
+HasHeld piece old new used = HasUsed piece old used new × (new.pending ≡ Nothing → used ≡ length piece) × (new.progress.place ≡ old.progress.place)

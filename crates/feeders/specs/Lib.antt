@@ -1,4 +1,5 @@
 -- words of the public clauses
+pub mod Access
 pub mod Setting
 pub mod Prefixes
 pub mod Readers
@@ -8,7 +9,6 @@ pub mod Adding
 pub mod Ending
 pub mod Texts
 -- words of private clauses
-pub mod Access
 pub mod Progress
 pub mod Pending
 pub mod TailBuffer

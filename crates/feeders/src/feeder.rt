@@ -118,26 +118,26 @@ impl<'t> Feeder<'t> {
         &mut self,
         rt: &R,
         gate: &G,
-        pass: &mut Access<'_, 't, O>,
+        access: &mut Access<'_, 't, O>,
         piece: &[u8],
     ) -> Result<(), FeedFault>
         requires some { 0 < O.plan.shards }
         requires rest { self.old.state ≡ FeedState.Paused → CanGoOn piece.now self.old.intake }
         requires not_ending { self.old.state ≢ FeedState.Ending }
         requires fits { self.old.intake.splitter.taken + length piece.now < 2 ^ 64 }
-        ensures fed { OnOk result ((start : Start) (bytes : List ℕ) → IsFedUpTo O.plan start bytes piece.now self.old pass.old → IsFedUpTo O.plan start (bytes ++ piece.now) [] self.new pass.new) }
+        ensures fed { OnOk result ((start : Start) (bytes : List ℕ) → IsFedUpTo O.plan start bytes piece.now self.old access.old.pass → IsFedUpTo O.plan start (bytes ++ piece.now) [] self.new access.new.pass) }
         ensures taken { OnOk result (self.new.state ≡ FeedState.Open → self.new.intake.splitter.taken ≡ self.old.intake.splitter.taken + length piece.now) }
         ensures read { (self.new.chosen ≡ self.old.chosen) × (self.new.tower ≡ self.old.tower) }
         ensures goes_on { OnOk result ((self.new.state ≢ FeedState.Paused) × (self.new.state ≢ FeedState.Ending)) }
         ensures stays { OnOk result ((self.new.state ≡ FeedState.Open) ⊎ (self.new.state ≡ FeedState.Broke) ⊎ (self.old.state ≡ FeedState.Ended)) }
-        ensures over { self.old.state ≡ FeedState.Broke → (result ≡ Ok tt) × (self.new ≡ self.old) × (pass.new ≡ pass.old) }
-        ensures ended { self.old.state ≡ FeedState.Ended → (result ≡ Ok tt) × (self.new ≡ self.old) × (pass.new ≡ pass.old) }
+        ensures over { self.old.state ≡ FeedState.Broke → (result ≡ Ok tt) × (self.new ≡ self.old) × (access.new ≡ access.old) }
+        ensures ended { self.old.state ≡ FeedState.Ended → (result ≡ Ok tt) × (self.new ≡ self.old) × (access.new ≡ access.old) }
         ensures used { IfErr result (λ failed. (failed.used ≤ length piece.now) × (self.new.intake.splitter.taken ≡ self.old.intake.splitter.taken + failed.used)) }
         ensures paused { IfErr result (λ failed. (self.new.state ≡ FeedState.Paused) × CanGoOn (drop failed.used piece.now) self.new.intake) }
-        ensures waits { IfErr result (λ failed. (start : Start) (bytes : List ℕ) → IsFedUpTo O.plan start bytes piece.now self.old pass.old
-            → IsFedUpTo O.plan start (bytes ++ take failed.used piece.now) (drop failed.used piece.now) self.new pass.new) }
-        ensures fault { IfErr result (λ failed. (start : Start) (bytes : List ℕ) → IsFedUpTo O.plan start bytes piece.now self.old pass.old
-            → O.plan.claims ≡ claims_of self.old.tower → MayStop O.plan pass.new failed.fault) }
+        ensures waits { IfErr result (λ failed. (start : Start) (bytes : List ℕ) → IsFedUpTo O.plan start bytes piece.now self.old access.old.pass
+            → IsFedUpTo O.plan start (bytes ++ take failed.used piece.now) (drop failed.used piece.now) self.new access.new.pass) }
+        ensures fault { IfErr result (λ failed. (start : Start) (bytes : List ℕ) → IsFedUpTo O.plan start bytes piece.now self.old access.old.pass
+            → O.plan.claims ≡ claims_of self.old.tower → MayStop O.plan access.new.pass failed.fault) }
     {
         if self.is_over() {
             return Ok(());
@@ -151,11 +151,11 @@ impl<'t> Feeder<'t> {
         };
         let page = self
             .paging
-            .page_of(self.pages, rt, self.alloc, pass.entries(), piece);
+            .page_of(self.pages, rt, self.alloc, access, piece);
         self.lines.want(gate.wants_lines());
         match self
             .intake
-            .take_piece(site, self.pages, pass, &mut self.lines, piece, page)
+            .take_piece(site, self.pages, access, &mut self.lines, piece, page)
         {
             Ok(true) => {
                 self.state = FeedState::Open;
@@ -177,24 +177,24 @@ impl<'t> Feeder<'t> {
         &mut self,
         rt: &R,
         gate: &G,
-        pass: &mut Access<'_, 't, O>,
+        access: &mut Access<'_, 't, O>,
     ) -> Result<(), FeedFault>
         requires some { 0 < O.plan.shards }
         requires rest { self.old.state ≡ FeedState.Paused → CanGoOn [] self.old.intake }
-        ensures fed { OnOk result ((start : Start) (bytes : List ℕ) → IsFedUpTo O.plan start bytes [] self.old pass.old
-            → HasEnded (setting_of O.plan self.old.tower self.old.chosen start) bytes self.new.intake pass.new) }
+        ensures fed { OnOk result ((start : Start) (bytes : List ℕ) → IsFedUpTo O.plan start bytes [] self.old access.old.pass
+            → HasEnded (setting_of O.plan self.old.tower self.old.chosen start) bytes self.new.intake access.new.pass) }
         ensures read { (self.new.chosen ≡ self.old.chosen) × (self.new.tower ≡ self.old.tower) }
-        ensures by_text { OnOk result ((start : Start) (bytes : List ℕ) → IsFedUpTo O.plan start bytes [] self.old pass.old → IsNotOfReading self.new.intake.progress.log) }
+        ensures by_text { OnOk result ((start : Start) (bytes : List ℕ) → IsFedUpTo O.plan start bytes [] self.old access.old.pass → IsNotOfReading self.new.intake.progress.log) }
         ensures closed { OnOk result ((self.new.state ≡ FeedState.Ended) ⊎ (self.new.state ≡ FeedState.Broke)) }
         ensures closes { OnOk result (self.old.state ≡ FeedState.Open → self.new.state ≡ FeedState.Ended) }
-        ensures over { self.old.state ≡ FeedState.Broke → (result ≡ Ok tt) × (self.new ≡ self.old) × (pass.new ≡ pass.old) }
-        ensures ended { self.old.state ≡ FeedState.Ended → (result ≡ Ok tt) × (self.new ≡ self.old) × (pass.new ≡ pass.old) }
+        ensures over { self.old.state ≡ FeedState.Broke → (result ≡ Ok tt) × (self.new ≡ self.old) × (access.new ≡ access.old) }
+        ensures ended { self.old.state ≡ FeedState.Ended → (result ≡ Ok tt) × (self.new ≡ self.old) × (access.new ≡ access.old) }
         ensures used { IfErr result (λ failed. failed.used ≡ 0) }
         ensures rest { self.new.state ≡ FeedState.Paused → CanGoOn [] self.new.intake }
-        ensures waits { IfErr result (λ failed. (start : Start) (bytes : List ℕ) → IsFedUpTo O.plan start bytes [] self.old pass.old
-            → IsFedUpTo O.plan start bytes [] self.new pass.new) }
-        ensures fault { IfErr result (λ failed. (start : Start) (bytes : List ℕ) → IsFedUpTo O.plan start bytes [] self.old pass.old
-            → O.plan.claims ≡ claims_of self.old.tower → MayStop O.plan pass.new failed.fault) }
+        ensures waits { IfErr result (λ failed. (start : Start) (bytes : List ℕ) → IsFedUpTo O.plan start bytes [] self.old access.old.pass
+            → IsFedUpTo O.plan start bytes [] self.new access.new.pass) }
+        ensures fault { IfErr result (λ failed. (start : Start) (bytes : List ℕ) → IsFedUpTo O.plan start bytes [] self.old access.old.pass
+            → O.plan.claims ≡ claims_of self.old.tower → MayStop O.plan access.new.pass failed.fault) }
     {
         if self.is_over() {
             return Ok(());
@@ -207,40 +207,40 @@ impl<'t> Feeder<'t> {
             field: self.field,
         };
         if self.is_ending() {
-            return self.settle_last(site, pass);
+            return self.settle_last(site, access);
         }
         if let Err(fault) = self
             .intake
-            .take_end(site, self.pages, pass, &mut self.lines)
+            .take_end(site, self.pages, access, &mut self.lines)
         {
             return Err(FeedFault { fault, used: 0 });
         }
         self.state = FeedState::Ending;
-        self.settle_last(site, pass)
+        self.settle_last(site, access)
     }
 
     /// Goes on with the last element of a trace whose end was taken, until its step is carried out.
     fn settle_last<O: Opening, R: Wait, G: Watcher>(
         &mut self,
         site: Site<'_, '_, R, G>,
-        pass: &mut Access<'_, 't, O>,
+        access: &mut Access<'_, 't, O>,
     ) -> Result<(), FeedFault>
         requires some { 0 < O.plan.shards }
         requires ending { self.old.state ≡ FeedState.Ending }
-        ensures fed { OnOk result ((start : Start) (bytes : List ℕ) → IsAtEnd (setting_of O.plan site.entry.tower.now site.entry.field start) bytes self.old.intake pass.old
-            → HasEnded (setting_of O.plan site.entry.tower.now site.entry.field start) bytes self.new.intake pass.new × IsNotOfReading self.new.intake.progress.log) }
+        ensures fed { OnOk result ((start : Start) (bytes : List ℕ) → IsAtEnd (setting_of O.plan site.entry.tower.now site.entry.field start) bytes self.old.intake access.old.pass
+            → HasEnded (setting_of O.plan site.entry.tower.now site.entry.field start) bytes self.new.intake access.new.pass × IsNotOfReading self.new.intake.progress.log) }
         ensures read { (self.new.chosen ≡ self.old.chosen) × (self.new.tower ≡ self.old.tower) }
         ensures closes { OnOk result (self.new.state ≡ FeedState.Ended) }
         ensures ending { OnErr result (self.new.state ≡ FeedState.Ending) }
         ensures used { IfErr result (λ failed. failed.used ≡ 0) }
-        ensures waits { OnErr result ((start : Start) (bytes : List ℕ) → IsAtEnd (setting_of O.plan site.entry.tower.now site.entry.field start) bytes self.old.intake pass.old
-            → IsAtEnd (setting_of O.plan site.entry.tower.now site.entry.field start) bytes self.new.intake pass.new) }
-        ensures fault { IfErr result (λ failed. (start : Start) (bytes : List ℕ) → IsAtEnd (setting_of O.plan site.entry.tower.now site.entry.field start) bytes self.old.intake pass.old
-            → O.plan.claims ≡ claims_of site.entry.tower.now → MayStop O.plan pass.new failed.fault) }
+        ensures waits { OnErr result ((start : Start) (bytes : List ℕ) → IsAtEnd (setting_of O.plan site.entry.tower.now site.entry.field start) bytes self.old.intake access.old.pass
+            → IsAtEnd (setting_of O.plan site.entry.tower.now site.entry.field start) bytes self.new.intake access.new.pass) }
+        ensures fault { IfErr result (λ failed. (start : Start) (bytes : List ℕ) → IsAtEnd (setting_of O.plan site.entry.tower.now site.entry.field start) bytes self.old.intake access.old.pass
+            → O.plan.claims ≡ claims_of site.entry.tower.now → MayStop O.plan access.new.pass failed.fault) }
     {
         match self
             .intake
-            .settle(site, self.pages, pass, self.lines.line())
+            .settle(site, self.pages, access, self.lines.line())
         {
             Ok(()) => {
                 self.state = FeedState::Ended;

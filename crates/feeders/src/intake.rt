@@ -9,6 +9,7 @@ ghost use Rattle.jepsen_form.specs.declared.item.Item.{Item as AnItem};
 ghost use Rattle.jepsen_form.specs.Item.{IsItem};
 ghost use Rattle.shards.specs.Pass.{PassModel};
 ghost use Rattle.shards.specs.Plan.{Plan, claims_of};
+ghost use Rattle.feeders.specs.Access.{KeepsOthers};
 ghost use Rattle.feeders.specs.Ending.{MayStop};
 ghost use Rattle.feeders.specs.Intake.{CanGoOn, GoesOver, GoesTo, HasFed, HasUsed, IsAtEnd};
 ghost use Rattle.feeders.specs.TailBuffer.{AreLastBytes};
@@ -49,7 +50,7 @@ pub struct Intake<'t> {
 
 impl<'t> Intake<'t> {
     /// Reads the element that waits to be read, if any, from its kept bytes, which are then dropped.
-    fn read_whole<R: Wait, G: Watcher>(
+    pub fn read_whole<R: Wait, G: Watcher>(
         &mut self,
         site: Site<'_, '_, R, G>,
         pages: &'t Pages,
@@ -99,7 +100,7 @@ impl<'t> Intake<'t> {
     fn finish_step<O: Opening, R: Wait, G: Watcher>(
         &mut self,
         site: Site<'_, '_, R, G>,
-        pass: &mut Access<'_, 't, O>,
+        access: &mut Access<'_, 't, O>,
         line: u64,
     ) -> Result<(), RunFault>
         requires some { 0 < O.plan.shards }
@@ -107,22 +108,23 @@ impl<'t> Intake<'t> {
         requires paired { IsToBeCarriedOut self.old.pending }
         ensures settled { OnOk result (self.new.pending ≡ Pending.Nothing) }
         ensures done { OnOk result ((start : Start) (items : List (Result AnItem ARefusedForm)) (waiting : List APiece)
-            → IsPending (setting_of O.plan site.entry.tower.now site.entry.field start) items waiting self.old pass.old
-            → AreSettled (setting_of O.plan site.entry.tower.now site.entry.field start) items waiting self.new.progress pass.new) }
+            → IsPending (setting_of O.plan site.entry.tower.now site.entry.field start) items waiting self.old access.old.pass
+            → AreSettled (setting_of O.plan site.entry.tower.now site.entry.field start) items waiting self.new.progress access.new.pass) }
         ensures waits { OnErr result ((setting : Setting) (items : List (Result AnItem ARefusedForm)) (waiting : List APiece)
-            → setting.plan ≡ O.plan → IsPending setting items waiting self.old pass.old → IsPending setting items waiting self.new pass.new) }
+            → setting.plan ≡ O.plan → IsPending setting items waiting self.old access.old.pass → IsPending setting items waiting self.new access.new.pass) }
+        ensures others { OnOk result (KeepsOthers O.plan access.old access.new) }
         ensures can { CanSettle self.new }
         ensures beside { IsBeside self.old self.new }
         ensures place { OnOk result (self.new.progress.place ≡ self.old.progress.place + count_of self.old.pending) }
         ensures refused { OnErr result ((self.new.progress.place ≡ self.old.progress.place) × (count_of self.old.pending ≡ 1) × (count_of self.new.pending ≡ 1)) }
         ensures fault { IfErr result (λ fault. (start : Start) (items : List (Result AnItem ARefusedForm)) (waiting pieces : List APiece)
-            → IsPending (setting_of O.plan site.entry.tower.now site.entry.field start) items waiting self.old pass.old
-            → AllZip (IsItem site.entry.tower.now site.entry.field) pieces items → O.plan.claims ≡ claims_of site.entry.tower.now → MayStop O.plan pass.new fault) }
+            → IsPending (setting_of O.plan site.entry.tower.now site.entry.field start) items waiting self.old access.old.pass
+            → AllZip (IsItem site.entry.tower.now site.entry.field) pieces items → O.plan.claims ≡ claims_of site.entry.tower.now → MayStop O.plan access.new.pass fault) }
     {
         items_name_registers_of_the_tower();
         steps_are_on_named_registers();
         if let Pending::Paired(step) = self.pending {
-            if let Err(fault) = self.progress.take_step(site, pass, line, step) {
+            if let Err(fault) = self.progress.take_step(site, access, line, step) {
                 return Err(fault);
             }
             self.pending = Pending::Nothing;
@@ -135,29 +137,30 @@ impl<'t> Intake<'t> {
         &mut self,
         site: Site<'_, '_, R, G>,
         pages: &'t Pages,
-        pass: &mut Access<'_, 't, O>,
+        access: &mut Access<'_, 't, O>,
         line: u64,
     ) -> Result<(), RunFault>
         requires some { 0 < O.plan.shards }
         requires can { CanSettle self.old }
         ensures settled { OnOk result (self.new.pending ≡ Pending.Nothing) }
         ensures done { OnOk result ((start : Start) (items : List (Result AnItem ARefusedForm)) (waiting : List APiece)
-            → IsPending (setting_of O.plan site.entry.tower.now site.entry.field start) items waiting self.old pass.old
-            → AreSettled (setting_of O.plan site.entry.tower.now site.entry.field start) items waiting self.new.progress pass.new) }
+            → IsPending (setting_of O.plan site.entry.tower.now site.entry.field start) items waiting self.old access.old.pass
+            → AreSettled (setting_of O.plan site.entry.tower.now site.entry.field start) items waiting self.new.progress access.new.pass) }
         ensures waits { OnErr result ((start : Start) (items : List (Result AnItem ARefusedForm)) (waiting : List APiece)
-            → IsPending (setting_of O.plan site.entry.tower.now site.entry.field start) items waiting self.old pass.old
-            → IsPending (setting_of O.plan site.entry.tower.now site.entry.field start) items waiting self.new pass.new) }
+            → IsPending (setting_of O.plan site.entry.tower.now site.entry.field start) items waiting self.old access.old.pass
+            → IsPending (setting_of O.plan site.entry.tower.now site.entry.field start) items waiting self.new access.new.pass) }
+        ensures others { OnOk result (KeepsOthers O.plan access.old access.new) }
         ensures can { CanSettle self.new }
         ensures beside { IsBeside self.old self.new }
         ensures place { OnOk result (self.new.progress.place ≡ self.old.progress.place + count_of self.old.pending) }
         ensures refused { OnErr result ((self.new.progress.place ≡ self.old.progress.place) × (count_of self.old.pending ≡ 1) × (count_of self.new.pending ≡ 1)) }
         ensures fault { IfErr result (λ fault. (start : Start) (items : List (Result AnItem ARefusedForm)) (waiting pieces : List APiece)
-            → IsPending (setting_of O.plan site.entry.tower.now site.entry.field start) items waiting self.old pass.old
-            → AllZip (IsItem site.entry.tower.now site.entry.field) pieces items → O.plan.claims ≡ claims_of site.entry.tower.now → MayStop O.plan pass.new fault) }
+            → IsPending (setting_of O.plan site.entry.tower.now site.entry.field start) items waiting self.old access.old.pass
+            → AllZip (IsItem site.entry.tower.now site.entry.field) pieces items → O.plan.claims ≡ claims_of site.entry.tower.now → MayStop O.plan access.new.pass fault) }
     {
         self.read_whole(site, pages)?;
         self.pair_lent()?;
-        self.finish_step(site, pass, line)
+        self.finish_step(site, access, line)
     }
 
     /// Takes `front`, the prefix of a chunk with which an element ended that begins at the place `start`. The
@@ -208,32 +211,31 @@ impl<'t> Intake<'t> {
         }
     }
 
-    /// Takes a chunk, which is also on `page` where that is given, up to the end of the next element, whose step
-    /// is then carried out, or else to its own end. The answer is how many of its bytes were used, or none where
-    /// the trace broke.
-    fn take_next<O: Opening, R: Wait, G: Watcher>(
+    /// Takes a chunk, which is also on `page` where that is given, up to the end of the next element, which then waits,
+    /// or else to its own end. The answer is how many of its bytes were used, or none where the trace broke.
+    pub fn hold_next<R: Wait, G: Watcher>(
         &mut self,
         site: Site<'_, '_, R, G>,
         pages: &'t Pages,
-        pass: &mut Access<'_, 't, O>,
         lines: &mut LineCount,
         piece: &[u8],
         page: Option<&'t [u8]>,
     ) -> Result<Option<usize>, FeedFault>
-        requires some { 0 < O.plan.shards }
         requires settled { self.old.pending ≡ Pending.Nothing }
         requires can { CanGoOn piece.now self.old }
         requires fits { self.old.splitter.taken + length piece.now < 2 ^ 64 }
         requires page { IsPageOf page piece.now }
-        ensures used { IfOk result (λ used. IfSome used (λ used. HasUsed piece.now self.old used self.new × (self.new.pending ≡ Pending.Nothing)
-            × (0 < length piece.now → self.old.splitter.taken + self.old.progress.place < self.new.splitter.taken + self.new.progress.place))) }
-        ensures goes { IfOk result (λ used. (start : Start) (bytes next : List ℕ) → HasFed (setting_of O.plan site.entry.tower.now site.entry.field start) bytes (piece.now ++ next) self.old pass.old
-            → GoesTo (setting_of O.plan site.entry.tower.now site.entry.field start) bytes piece.now next used self.new pass.new) }
+        ensures used { IfOk result (λ used. IfSome used (λ used. HasUsed piece.now self.old used self.new
+            × (self.new.pending ≡ Pending.Nothing → used ≡ length piece.now) × (self.new.progress.place ≡ self.old.progress.place))) }
+        ensures goes { IfOk result (λ used. (plan : Plan) (start : Start) (pass : PassModel) (bytes next : List ℕ)
+            → HasFed (setting_of plan site.entry.tower.now site.entry.field start) bytes (piece.now ++ next) self.old pass
+            → GoesTo (setting_of plan site.entry.tower.now site.entry.field start) bytes piece.now next used self.new pass) }
+        ensures over { result ≡ Ok None → (self.new.pending ≡ Pending.Nothing) × (self.new.progress.place ≡ self.old.progress.place) }
         ensures refused { IfErr result (λ failed. HasUsed piece.now self.old failed.used self.new) }
-        ensures waits { IfErr result (λ failed. (start : Start) (bytes next : List ℕ) → HasFed (setting_of O.plan site.entry.tower.now site.entry.field start) bytes (piece.now ++ next) self.old pass.old
-            → HasFed (setting_of O.plan site.entry.tower.now site.entry.field start) (bytes ++ take failed.used piece.now) (drop failed.used piece.now ++ next) self.new pass.new) }
-        ensures fault { IfErr result (λ failed. (start : Start) (bytes next : List ℕ) → HasFed (setting_of O.plan site.entry.tower.now site.entry.field start) bytes (piece.now ++ next) self.old pass.old
-            → O.plan.claims ≡ claims_of site.entry.tower.now → MayStop O.plan pass.new failed.fault) }
+        ensures waits { IfErr result (λ failed. (plan : Plan) (start : Start) (pass : PassModel) (bytes next : List ℕ)
+            → HasFed (setting_of plan site.entry.tower.now site.entry.field start) bytes (piece.now ++ next) self.old pass
+            → HasFed (setting_of plan site.entry.tower.now site.entry.field start) (bytes ++ take failed.used piece.now) (drop failed.used piece.now ++ next) self.new pass) }
+        ensures memory { IfErr result (λ failed. failed.fault ≡ RunFault.Memory) }
     {
         each_is_element();
         if self.kept.make_room(piece.len()).is_err() {
@@ -271,11 +273,46 @@ impl<'t> Intake<'t> {
             page: text_on(page, before, start, used),
             item: next.item,
         };
-        if let Err(memory) = self.take_whole(site, pages, front, start, known) {
-            let fault = RunFault::from(memory);
-            return Err(FeedFault { fault, used });
+        match self.take_whole(site, pages, front, start, known) {
+            Ok(()) => Ok(Some(used)),
+            Err(memory) => {
+                let fault = RunFault::from(memory);
+                Err(FeedFault { fault, used })
+            }
         }
-        match self.settle(site, pages, pass, lines.line()) {
+    }
+
+    /// Takes a chunk as `hold_next` does, and carries out the step of the element that waits then, if any.
+    fn take_next<O: Opening, R: Wait, G: Watcher>(
+        &mut self,
+        site: Site<'_, '_, R, G>,
+        pages: &'t Pages,
+        access: &mut Access<'_, 't, O>,
+        lines: &mut LineCount,
+        piece: &[u8],
+        page: Option<&'t [u8]>,
+    ) -> Result<Option<usize>, FeedFault>
+        requires some { 0 < O.plan.shards }
+        requires settled { self.old.pending ≡ Pending.Nothing }
+        requires can { CanGoOn piece.now self.old }
+        requires fits { self.old.splitter.taken + length piece.now < 2 ^ 64 }
+        requires page { IsPageOf page piece.now }
+        ensures used { IfOk result (λ used. IfSome used (λ used. HasUsed piece.now self.old used self.new × (self.new.pending ≡ Pending.Nothing)
+            × (0 < length piece.now → self.old.splitter.taken + self.old.progress.place < self.new.splitter.taken + self.new.progress.place))) }
+        ensures goes { IfOk result (λ used. (start : Start) (bytes next : List ℕ) → HasFed (setting_of O.plan site.entry.tower.now site.entry.field start) bytes (piece.now ++ next) self.old access.old.pass
+            → GoesTo (setting_of O.plan site.entry.tower.now site.entry.field start) bytes piece.now next used self.new access.new.pass) }
+        ensures refused { IfErr result (λ failed. HasUsed piece.now self.old failed.used self.new) }
+        ensures waits { IfErr result (λ failed. (start : Start) (bytes next : List ℕ) → HasFed (setting_of O.plan site.entry.tower.now site.entry.field start) bytes (piece.now ++ next) self.old access.old.pass
+            → HasFed (setting_of O.plan site.entry.tower.now site.entry.field start) (bytes ++ take failed.used piece.now) (drop failed.used piece.now ++ next) self.new access.new.pass) }
+        ensures fault { IfErr result (λ failed. (start : Start) (bytes next : List ℕ) → HasFed (setting_of O.plan site.entry.tower.now site.entry.field start) bytes (piece.now ++ next) self.old access.old.pass
+            → O.plan.claims ≡ claims_of site.entry.tower.now → MayStop O.plan access.new.pass failed.fault) }
+    {
+        let used = match self.hold_next(site, pages, lines, piece, page) {
+            Ok(Some(used)) => used,
+            Ok(None) => return Ok(None),
+            Err(failed) => return Err(failed),
+        };
+        match self.settle(site, pages, access, lines.line()) {
             Ok(()) => Ok(Some(used)),
             Err(fault) => Err(FeedFault { fault, used }),
         }
@@ -287,7 +324,7 @@ impl<'t> Intake<'t> {
         &mut self,
         site: Site<'_, '_, R, G>,
         pages: &'t Pages,
-        pass: &mut Access<'_, 't, O>,
+        access: &mut Access<'_, 't, O>,
         lines: &mut LineCount,
         piece: &[u8],
         page: Option<&'t [u8]>,
@@ -297,21 +334,21 @@ impl<'t> Intake<'t> {
         requires fits { self.old.splitter.taken + length piece.now < 2 ^ 64 }
         requires page { IsPageOf page piece.now }
         ensures can { result ≡ Ok true → CanGoOn [] self.new × (self.new.pending ≡ Pending.Nothing) × (self.new.splitter.taken ≡ self.old.splitter.taken + length piece.now) }
-        ensures goes { IfOk result (λ on. (start : Start) (bytes : List ℕ) → HasFed (setting_of O.plan site.entry.tower.now site.entry.field start) bytes piece.now self.old pass.old
-            → GoesOver on (setting_of O.plan site.entry.tower.now site.entry.field start) (bytes ++ piece.now) self.new pass.new) }
+        ensures goes { IfOk result (λ on. (start : Start) (bytes : List ℕ) → HasFed (setting_of O.plan site.entry.tower.now site.entry.field start) bytes piece.now self.old access.old.pass
+            → GoesOver on (setting_of O.plan site.entry.tower.now site.entry.field start) (bytes ++ piece.now) self.new access.new.pass) }
         ensures refused { IfErr result (λ failed. HasUsed piece.now self.old failed.used self.new) }
-        ensures waits { IfErr result (λ failed. (start : Start) (bytes : List ℕ) → HasFed (setting_of O.plan site.entry.tower.now site.entry.field start) bytes piece.now self.old pass.old
-            → HasFed (setting_of O.plan site.entry.tower.now site.entry.field start) (bytes ++ take failed.used piece.now) (drop failed.used piece.now) self.new pass.new) }
-        ensures fault { IfErr result (λ failed. (start : Start) (bytes : List ℕ) → HasFed (setting_of O.plan site.entry.tower.now site.entry.field start) bytes piece.now self.old pass.old
-            → O.plan.claims ≡ claims_of site.entry.tower.now → MayStop O.plan pass.new failed.fault) }
+        ensures waits { IfErr result (λ failed. (start : Start) (bytes : List ℕ) → HasFed (setting_of O.plan site.entry.tower.now site.entry.field start) bytes piece.now self.old access.old.pass
+            → HasFed (setting_of O.plan site.entry.tower.now site.entry.field start) (bytes ++ take failed.used piece.now) (drop failed.used piece.now) self.new access.new.pass) }
+        ensures fault { IfErr result (λ failed. (start : Start) (bytes : List ℕ) → HasFed (setting_of O.plan site.entry.tower.now site.entry.field start) bytes piece.now self.old access.old.pass
+            → O.plan.claims ≡ claims_of site.entry.tower.now → MayStop O.plan access.new.pass failed.fault) }
     {
-        if let Err(fault) = self.settle(site, pages, pass, lines.line()) {
+        if let Err(fault) = self.settle(site, pages, access, lines.line()) {
             return Err(FeedFault { fault, used: 0 });
         }
         let mut at = 0;
         while at < piece.len() {
             let rest = part_of(page, at, piece.len());
-            match self.take_next(site, pages, pass, lines, &piece[at..], rest) {
+            match self.take_next(site, pages, access, lines, &piece[at..], rest) {
                 Ok(Some(used)) => at += used,
                 Ok(None) => return Ok(false),
                 Err(failed) => {
@@ -326,30 +363,18 @@ impl<'t> Intake<'t> {
     }
 
     /// Takes the end of the trace. An element that ends with it then waits.
-    pub fn take_end<O: Opening, R: Wait, G: Watcher>(
-        &mut self,
-        site: Site<'_, '_, R, G>,
-        pages: &'t Pages,
-        pass: &mut Access<'_, 't, O>,
-        lines: &mut LineCount,
-    ) -> Result<(), RunFault>
-        requires some { 0 < O.plan.shards }
+    pub fn hold_end(&mut self, lines: &mut LineCount) -> Result<(), Memory>
+        requires settled { self.old.pending ≡ Pending.Nothing }
         requires can { CanGoOn [] self.old }
-        ensures ends { OnOk result ((start : Start) (bytes : List ℕ) → HasFed (setting_of O.plan site.entry.tower.now site.entry.field start) bytes [] self.old pass.old
-            → IsAtEnd (setting_of O.plan site.entry.tower.now site.entry.field start) bytes self.new pass.new) }
+        ensures ends { OnOk result ((setting : Setting) (bytes : List ℕ) (pass : PassModel) → HasFed setting bytes [] self.old pass → IsAtEnd setting bytes self.new pass) }
         ensures by_text { OnOk result (self.old.progress.log.broken ≡ None → IsNotOfReading self.new.progress.log) }
         ensures can { CanSettle self.new }
+        ensures place { self.new.progress.place ≡ self.old.progress.place }
         ensures still { OnErr result (CanGoOn [] self.new × (self.new.splitter.taken ≡ self.old.splitter.taken)) }
-        ensures open { OnErr result (self.old.pending ≡ Pending.Nothing → self.new.pending ≡ Pending.Nothing) }
-        ensures waits { OnErr result ((start : Start) (bytes : List ℕ) → HasFed (setting_of O.plan site.entry.tower.now site.entry.field start) bytes [] self.old pass.old
-            → HasFed (setting_of O.plan site.entry.tower.now site.entry.field start) bytes [] self.new pass.new) }
-        ensures fault { IfErr result (λ fault. (start : Start) (bytes : List ℕ) → HasFed (setting_of O.plan site.entry.tower.now site.entry.field start) bytes [] self.old pass.old
-            → O.plan.claims ≡ claims_of site.entry.tower.now → MayStop O.plan pass.new fault) }
+        ensures open { OnErr result (self.new.pending ≡ Pending.Nothing) }
+        ensures waits { OnErr result ((setting : Setting) (bytes : List ℕ) (pass : PassModel) → HasFed setting bytes [] self.old pass → HasFed setting bytes [] self.new pass) }
     {
         each_is_element();
-        if let Err(fault) = self.settle(site, pages, pass, lines.line()) {
-            return Err(fault);
-        }
         let at = self.splitter.taken() as usize;
         match self.splitter.end() {
             Ok(None) => Ok(()),
@@ -360,12 +385,42 @@ impl<'t> Intake<'t> {
             }
             Err(fault) => {
                 let Some(broken) = broken_by(fault) else {
-                    return Err(RunFault::Memory);
+                    return Err(Memory);
                 };
                 lines.count_to(&self.kept, &[], at, broken.place as usize);
                 self.progress.log.broken = Some(broken);
                 Ok(())
             }
+        }
+    }
+
+    /// Carries out the step of the element that waits, if any, and takes the end of the trace as `hold_end` does.
+    pub fn take_end<O: Opening, R: Wait, G: Watcher>(
+        &mut self,
+        site: Site<'_, '_, R, G>,
+        pages: &'t Pages,
+        access: &mut Access<'_, 't, O>,
+        lines: &mut LineCount,
+    ) -> Result<(), RunFault>
+        requires some { 0 < O.plan.shards }
+        requires can { CanGoOn [] self.old }
+        ensures ends { OnOk result ((start : Start) (bytes : List ℕ) → HasFed (setting_of O.plan site.entry.tower.now site.entry.field start) bytes [] self.old access.old.pass
+            → IsAtEnd (setting_of O.plan site.entry.tower.now site.entry.field start) bytes self.new access.new.pass) }
+        ensures by_text { OnOk result (self.old.progress.log.broken ≡ None → IsNotOfReading self.new.progress.log) }
+        ensures can { CanSettle self.new }
+        ensures still { OnErr result (CanGoOn [] self.new × (self.new.splitter.taken ≡ self.old.splitter.taken)) }
+        ensures open { OnErr result (self.old.pending ≡ Pending.Nothing → self.new.pending ≡ Pending.Nothing) }
+        ensures waits { OnErr result ((start : Start) (bytes : List ℕ) → HasFed (setting_of O.plan site.entry.tower.now site.entry.field start) bytes [] self.old access.old.pass
+            → HasFed (setting_of O.plan site.entry.tower.now site.entry.field start) bytes [] self.new access.new.pass) }
+        ensures fault { IfErr result (λ fault. (start : Start) (bytes : List ℕ) → HasFed (setting_of O.plan site.entry.tower.now site.entry.field start) bytes [] self.old access.old.pass
+            → O.plan.claims ≡ claims_of site.entry.tower.now → MayStop O.plan access.new.pass fault) }
+    {
+        if let Err(fault) = self.settle(site, pages, access, lines.line()) {
+            return Err(fault);
+        }
+        match self.hold_end(lines) {
+            Ok(()) => Ok(()),
+            Err(memory) => Err(RunFault::from(memory)),
         }
     }
 }

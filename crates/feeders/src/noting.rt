@@ -3,6 +3,7 @@
 ghost use Rattle.std.specs.Prelude.{◌≡◌, ◌≢◌, ◌<◌, IfErr, OnErr, OnOk, Ok, Err, Some, vec_capacity, vec_len};
 ghost use Rattle.pairing.specs.declared.step.Step.TheVariants.{Edit as ToEdit, Ask};
 ghost use Rattle.shards.specs.Pass.{IsPassOf, PassModel};
+ghost use Rattle.feeders.specs.Access.{KeepsOthers};
 ghost use Rattle.feeders.specs.Ending.{IsEndedBy, MayStop};
 ghost use Rattle.feeders.specs.declared.fault.RunFault.TheVariants.{Memory};
 ghost use Rattle.feeders.specs.Progress.{GoesOn, HasSameLines, IsKnownStep};
@@ -25,24 +26,25 @@ use std::sync::Wait;
 pub fn carry_out<'t, O: Opening, R: Wait, G: Watcher>(
     log: &mut Log<'t>,
     site: Site<'_, '_, R, G>,
-    pass: &mut Access<'_, 't, O>,
+    access: &mut Access<'_, 't, O>,
     place: u64,
     line: u64,
     step: Option<Step<'t>>,
 ) -> Result<(), RunFault>
     requires some { 0 < O.plan.shards }
-    ensures done { OnOk result (GoesOn O.plan pass.old log.old pass.new log.new place (Ok step.entry)) }
-    ensures kept { OnErr result (HasSameLines log.old log.new × (pass.new ≡ pass.old)) }
+    ensures done { OnOk result (GoesOn O.plan access.old.pass log.old access.new.pass log.new place (Ok step.entry)) }
+    ensures others { OnOk result (KeepsOthers O.plan access.old access.new) }
+    ensures kept { OnErr result (HasSameLines log.old log.new × (access.new ≡ access.old)) }
     ensures broken { log.new.broken ≡ log.old.broken }
-    ensures fault { IfErr result (λ fault. IsPassOf O.plan pass.old → IsKnownStep O.plan (Ok step.entry) → MayStop O.plan pass.new fault) }
+    ensures fault { IfErr result (λ fault. IsPassOf O.plan access.old.pass → IsKnownStep O.plan (Ok step.entry) → MayStop O.plan access.new.pass fault) }
 {
     let Some(step) = step else {
         return Ok(());
     };
     log.lines.reserve(1)?;
     match step {
-        Step::Edit(register, edit) => submit(log, site, pass, place, line, register, edit),
-        Step::Ask(register) => ask(log, site, pass, place, register),
+        Step::Edit(register, edit) => submit(log, site, access, place, line, register, edit),
+        Step::Ask(register) => ask(log, site, access, place, register),
     }
 }
 
@@ -63,7 +65,7 @@ pub fn leave_out<O: Opening>(log: &mut Log, place: u64, left_out: LeftOut) -> Re
 fn submit<'t, O: Opening, R: Wait, G: Watcher>(
     log: &mut Log<'t>,
     site: Site<'_, '_, R, G>,
-    pass: &mut Access<'_, 't, O>,
+    access: &mut Access<'_, 't, O>,
     place: u64,
     line: u64,
     register: RegId,
@@ -71,14 +73,15 @@ fn submit<'t, O: Opening, R: Wait, G: Watcher>(
 ) -> Result<(), RunFault>
     requires some { 0 < O.plan.shards }
     requires room { vec_len log.old.lines < vec_capacity log.old.lines }
-    ensures done { OnOk result (GoesOn O.plan pass.old log.old pass.new log.new place (Ok (Some (ToEdit register edit.entry)))) }
-    ensures kept { OnErr result ((log.new ≡ log.old) × (pass.new ≡ pass.old)) }
+    ensures done { OnOk result (GoesOn O.plan access.old.pass log.old access.new.pass log.new place (Ok (Some (ToEdit register edit.entry)))) }
+    ensures others { OnOk result (KeepsOthers O.plan access.old access.new) }
+    ensures kept { OnErr result ((log.new ≡ log.old) × (access.new ≡ access.old)) }
     ensures broken { log.new.broken ≡ log.old.broken }
-    ensures fault { IfErr result (IsEndedBy O.plan pass.old register.0) }
+    ensures fault { IfErr result (IsEndedBy O.plan access.old.pass register.0) }
 {
     what_was_told_stays();
     let gate = Placed::new(site.gate, place, line);
-    let receipt = pass.submit(site.rt, &gate, register, &edit)?;
+    let receipt = access.submit(site.rt, &gate, register, &edit)?;
     if let Reply::Refused(refusal) = receipt.reply {
         let left_out = LeftOut {
             code: Code::Register(refusal),
@@ -89,7 +92,7 @@ fn submit<'t, O: Opening, R: Wait, G: Watcher>(
             what: What::Refused(left_out),
         });
         site.gate.told(Notice::Refused {
-            feeder: pass.feeder(),
+            feeder: access.feeder(),
             place,
             line,
             left_out,
@@ -102,19 +105,20 @@ fn submit<'t, O: Opening, R: Wait, G: Watcher>(
 fn ask<'t, O: Opening, R: Wait, G: Watcher>(
     log: &mut Log<'t>,
     site: Site<'_, '_, R, G>,
-    pass: &mut Access<'_, 't, O>,
+    access: &mut Access<'_, 't, O>,
     place: u64,
     register: RegId,
 ) -> Result<(), RunFault>
     requires some { 0 < O.plan.shards }
     requires room { vec_len log.old.lines < vec_capacity log.old.lines }
-    ensures done { OnOk result (GoesOn O.plan pass.old log.old pass.new log.new place (Ok (Some (Ask register)))) }
-    ensures kept { OnErr result ((log.new ≡ log.old) × (pass.new ≡ pass.old)) }
+    ensures done { OnOk result (GoesOn O.plan access.old.pass log.old access.new.pass log.new place (Ok (Some (Ask register)))) }
+    ensures others { OnOk result (KeepsOthers O.plan access.old access.new) }
+    ensures kept { OnErr result ((log.new ≡ log.old) × (access.new ≡ access.old)) }
     ensures broken { log.new.broken ≡ log.old.broken }
-    ensures fault { IfErr result (λ fault. IsEndedBy O.plan pass.old register.0 fault × (fault ≢ Memory)) }
+    ensures fault { IfErr result (λ fault. IsEndedBy O.plan access.old.pass register.0 fault × (fault ≢ Memory)) }
 {
     what_was_told_stays();
-    let answer = pass.standing(site.rt, site.gate, register)?;
+    let answer = access.standing(site.rt, site.gate, register)?;
     log.lines.push_reserved(Line {
         event: place,
         what: What::Answered(register, answer),

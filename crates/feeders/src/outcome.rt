@@ -20,7 +20,7 @@ pub fn outcome_of<'t, O: Opening>(
     access: Access<'_, 't, O>,
     log: Log<'t>,
 ) -> Result<FeederOutcome<'t>, RunFault>
-    ensures outcome { IfOk result (λ fed. fed ≡ record { pass = access.entry; log = log.entry }) }
+    ensures outcome { IfOk result (λ fed. fed ≡ record { pass = access.entry.pass; log = log.entry }) }
     ensures fault { IfErr result (λ fault. fault ≡ Memory) }
 {
     match access.into_pass() {

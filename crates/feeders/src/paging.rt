@@ -2,7 +2,9 @@
 
 ghost use Rattle.feeders.specs.Pending.{IsPageOf};
 
+use crate::access::Access;
 use crate::pages::Pages;
+use shards::Opening;
 use std::alloc::Global;
 use std::sync::Wait;
 
@@ -13,6 +15,9 @@ const LONG: usize = 4_096;
 /// made since the long chunk before it began. So what is on pages and not lent grows with the entries, not with
 /// what is skipped.
 const BYTES_AN_ENTRY: u64 = 256;
+
+/// There are at most this many shards.
+const SHARDS: u32 = 64;
 
 /// The length in bytes of a feeder's last long chunk, 0 where there was none, and how many entries the feeder had
 /// submitted before it.
@@ -30,14 +35,14 @@ impl Paging {
         }
     }
 
-    /// The page of the next chunk of a feeder that submitted so many entries; none where it is not put on one, or where
-    /// memory for that is refused.
-    pub fn page_of<'t, R: Wait>(
+    /// The page of the next chunk of the feeder that has this access; none where it is not put on one, or where memory
+    /// for that is refused.
+    pub fn page_of<'t, O: Opening, R: Wait>(
         &mut self,
         pages: &'t Pages,
         rt: &R,
         alloc: Global,
-        submitted: u64,
+        access: &Access<'_, 't, O>,
         piece: &[u8],
     ) -> Option<&'t [u8]>
         ensures { IsPageOf result piece.now }
@@ -45,6 +50,7 @@ impl Paging {
         if piece.len() < LONG {
             return None;
         }
+        let submitted = submitted_by(access);
         let entries = submitted.saturating_sub(self.submitted);
         let is_dense = self.length == 0
             || piece.len() as u64 <= entries.saturating_mul(BYTES_AN_ENTRY);
@@ -57,4 +63,13 @@ impl Paging {
         }
         pages.push(rt, alloc, piece).ok()
     }
+}
+
+/// How many edits the feeder that has this access submitted, in all shards.
+fn submitted_by<O: Opening>(access: &Access<'_, '_, O>) -> u64 {
+    let mut many = 0u64;
+    for shard in 0..SHARDS {
+        many = many.saturating_add(access.submitted(shard));
+    }
+    many
 }

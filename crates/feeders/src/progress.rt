@@ -8,6 +8,7 @@ ghost use Rattle.pairing.specs.Accepted.{Placed, accepted};
 ghost use Rattle.pairing.specs.Known.{KnowsItems};
 ghost use Rattle.shards.specs.Pass.{IsPassOf, PassModel};
 ghost use Rattle.shards.specs.Plan.{Plan};
+ghost use Rattle.feeders.specs.Access.{KeepsOthers};
 ghost use Rattle.feeders.specs.Ending.{MayStop};
 ghost use Rattle.feeders.specs.Progress.{IsAhead, IsAt, IsPaired, PairedUpTo, IsKnownStep};
 ghost use Rattle.feeders.specs.Setting.{IsAtStart};
@@ -87,7 +88,7 @@ impl<'t> Progress<'t> {
     pub fn take_step<O: Opening, R: Wait, G: Watcher>(
         &mut self,
         site: Site<'_, '_, R, G>,
-        pass: &mut Access<'_, 't, O>,
+        access: &mut Access<'_, 't, O>,
         line: u64,
         step: Result<Option<Step<'t>>, LeftOut>,
     ) -> Result<(), RunFault>
@@ -96,18 +97,19 @@ impl<'t> Progress<'t> {
         requires last { PairedUpTo self.old }
         ensures place { OnOk result (self.new.place ≡ self.old.place + 1) }
         ensures ahead { OnOk result (IsAhead self.new) }
-        ensures done { OnOk result ((start : Start) (items : List (Result AnItem ARefusedForm)) (item : Result AnItem ARefusedForm) → IsPaired O.plan start items item step.entry self.old pass.old → IsAt O.plan start (items ++ item ∷ []) self.new pass.new) }
-        ensures kept { OnErr result ((start : Start) (items : List (Result AnItem ARefusedForm)) (item : Result AnItem ARefusedForm) → IsPaired O.plan start items item step.entry self.old pass.old → IsPaired O.plan start items item step.entry self.new pass.new) }
+        ensures done { OnOk result ((start : Start) (items : List (Result AnItem ARefusedForm)) (item : Result AnItem ARefusedForm) → IsPaired O.plan start items item step.entry self.old access.old.pass → IsAt O.plan start (items ++ item ∷ []) self.new access.new.pass) }
+        ensures kept { OnErr result ((start : Start) (items : List (Result AnItem ARefusedForm)) (item : Result AnItem ARefusedForm) → IsPaired O.plan start items item step.entry self.old access.old.pass → IsPaired O.plan start items item step.entry self.new access.new.pass) }
         ensures refused { OnErr result ((self.new.place ≡ self.old.place) × PairedUpTo self.new) }
+        ensures others { OnOk result (KeepsOthers O.plan access.old access.new) }
         ensures broken { self.new.log.broken ≡ self.old.log.broken }
-        ensures fault { IfErr result (λ fault. IsPassOf O.plan pass.old → IsKnownStep O.plan step.entry → MayStop O.plan pass.new fault) }
+        ensures fault { IfErr result (λ fault. IsPassOf O.plan access.old.pass → IsKnownStep O.plan step.entry → MayStop O.plan access.new.pass fault) }
     {
         match step {
-            Ok(step) => carry_out(&mut self.log, site, pass, self.place, line, step)?,
+            Ok(step) => carry_out(&mut self.log, site, access, self.place, line, step)?,
             Err(left_out) => {
                 leave_out::<O>(&mut self.log, self.place, left_out)?;
                 site.gate.told(Notice::Refused {
-                    feeder: pass.feeder(),
+                    feeder: access.feeder(),
                     place: self.place,
                     line,
                     left_out,
@@ -115,7 +117,7 @@ impl<'t> Progress<'t> {
             }
         }
         self.place += 1;
-        site.gate.took(pass.feeder());
+        site.gate.took(access.feeder());
         Ok(())
     }
 

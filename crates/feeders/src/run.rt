@@ -15,6 +15,7 @@ use crate::several::{feed_all, read_all, read_in_turn, unzipped};
 use crate::stream::feed_access;
 use crate::watcher::Watcher;
 use logs::{Log, Run};
+use shards::laws::a_feeder_alone_is_served_as_with_a_pass;
 use shards::{Auditor, LoneAuditor, Opening, Pass};
 use std::alloc::{AllocError, Global};
 use std::io::Read;
@@ -110,8 +111,9 @@ fn alone_in<'t, O: Opening, R: Wait, S: Read + Drop, G: Watcher>(
     ensures run { IfOk result (λ run. (traces : List (List ℕ)) × AreReadOf (S.remaining reader ∷ []) run.logs.items traces × IsRun setup.entry.tower.now setup.entry.field setup.entry.shards traces run.closed run.logs.items) }
     ensures fault { IfErr result (MayEnd O.plan) }
 {
-    let auditor = LoneAuditor::<O>::open(setup.alloc, setup.tower, setup.shards)?;
-    let mut access = Access::alone(auditor);
+    a_feeder_alone_is_served_as_with_a_pass();
+    let auditor = LoneAuditor::<O>::open(setup.alloc, setup.tower, setup.shards, 1)?;
+    let mut access = Access::in_turn(auditor, 0);
     let log = feed_access(setup.site(gate), pages, &mut access, reader)?;
     let logs = one_log(setup.alloc, log)?;
     match access.into_auditor() {

@@ -49,14 +49,14 @@ pub fn feed_reader<'t, O: Opening, R: Wait, G: Watcher, S: Read + Drop>(
 pub fn feed_access<'t, O: Opening, R: Wait, G: Watcher, S: Read + Drop>(
     site: Site<'_, 't, R, G>,
     pages: &'t Pages,
-    pass: &mut Access<'_, 't, O>,
+    access: &mut Access<'_, 't, O>,
     reader: S,
 ) -> Result<Log<'t>, RunFault>
     requires some { 0 < O.plan.shards }
     requires of_tower { O.plan.claims ≡ claims_of site.tower.now }
-    requires fresh { pass.old ≡ new_pass O.plan pass.old.feeder }
-    requires known { pass.old.feeder < O.plan.feeders }
-    ensures fed { IfOk result (λ log. IsReadAndFed (setting_of O.plan site.entry.tower.now site.entry.field (first_start pass.old.feeder)) (S.remaining reader) (record { pass = pass.new; log = log })) }
+    requires fresh { access.old.pass ≡ new_pass O.plan access.old.pass.feeder }
+    requires known { access.old.pass.feeder < O.plan.feeders }
+    ensures fed { IfOk result (λ log. IsReadAndFed (setting_of O.plan site.entry.tower.now site.entry.field (first_start access.old.pass.feeder)) (S.remaining reader) (record { pass = access.new.pass; log = log })) }
     ensures fault { IfErr result (MayEnd O.plan) }
 {
     what_was_told_stays();
@@ -64,25 +64,25 @@ pub fn feed_access<'t, O: Opening, R: Wait, G: Watcher, S: Read + Drop>(
     room.resize(PIECE, 0)?;
     let buffer = room.as_mut_slice();
     let mut source = Source::new(reader);
-    let mut feeder = Feeder::new(site.alloc, pass.feeder(), site.field, site.tower, pages);
+    let mut feeder = Feeder::new(site.alloc, access.feeder(), site.field, site.tower, pages);
     loop {
         match source.next(buffer) {
             Ok(count) => {
                 if count == 0 {
-                    feeder.end(site.rt, site.gate, pass)?;
-                    return Ok(close(site.gate, feeder, pass.feeder()));
+                    feeder.end(site.rt, site.gate, access)?;
+                    return Ok(close(site.gate, feeder, access.feeder()));
                 }
                 let piece = &buffer[..count];
-                if let Err(failed) = feeder.feed(site.rt, site.gate, pass, piece) {
+                if let Err(failed) = feeder.feed(site.rt, site.gate, access, piece) {
                     return Err(failed.fault);
                 }
                 if feeder.has_broken() {
-                    return Ok(close(site.gate, feeder, pass.feeder()));
+                    return Ok(close(site.gate, feeder, access.feeder()));
                 }
             }
             Err(code) => {
                 feeder.break_off(code);
-                return Ok(close(site.gate, feeder, pass.feeder()));
+                return Ok(close(site.gate, feeder, access.feeder()));
             }
         }
     }

@@ -47,14 +47,14 @@ pub fn feed_trace<'t, O: Opening, R: Wait, G: Watcher>(
 /// Reads a trace up to its end or to where it breaks, and carries its steps out in order.
 fn feed_text<'t, O: Opening, R: Wait, G: Watcher>(
     site: Site<'_, '_, R, G>,
-    pass: &mut Access<'_, 't, O>,
+    access: &mut Access<'_, 't, O>,
     trace: &'t [u8],
 ) -> Result<Log<'t>, RunFault>
     requires some { 0 < O.plan.shards }
     requires of_tower { O.plan.claims ≡ claims_of site.tower.now }
-    requires fresh { pass.old ≡ new_pass O.plan pass.old.feeder }
-    requires known { pass.old.feeder < O.plan.feeders }
-    ensures fed { IfOk result (λ log. IsFed (setting_of O.plan site.entry.tower.now site.entry.field (first_start pass.old.feeder)) trace.entry.now (record { pass = pass.new; log = log })) }
+    requires fresh { access.old.pass ≡ new_pass O.plan access.old.pass.feeder }
+    requires known { access.old.pass.feeder < O.plan.feeders }
+    ensures fed { IfOk result (λ log. IsFed (setting_of O.plan site.entry.tower.now site.entry.field (first_start access.old.pass.feeder)) trace.entry.now (record { pass = access.new.pass; log = log })) }
     ensures by_text { IfOk result IsNotOfReading }
     ensures fault { IfErr result (MayEnd O.plan) }
 {
@@ -62,7 +62,7 @@ fn feed_text<'t, O: Opening, R: Wait, G: Watcher>(
     items_name_registers_of_the_tower();
     steps_are_on_named_registers();
     let mut reader = Reader::new(site.alloc, trace);
-    let mut progress = Progress::new(site.alloc, pass.feeder());
+    let mut progress = Progress::new(site.alloc, access.feeder());
     let mut lines = LineCount::new();
     lines.want(site.gate.wants_lines());
     let mut counted = 0;
@@ -73,12 +73,18 @@ fn feed_text<'t, O: Opening, R: Wait, G: Watcher>(
                 lines.count(between(trace, counted, start));
                 counted = start;
                 let step = progress.pair(read_item(element, site.field, site.tower))?;
-                if let Err(fault) = progress.take_step(site, pass, lines.line(), step) {
+                if let Err(fault) = progress.take_step(site, access, lines.line(), step) {
                     return Err(fault);
                 }
             }
             Ok(None) => {
-                tell_end(site.gate, pass.feeder(), None, lines.line(), progress.place);
+                tell_end(
+                    site.gate,
+                    access.feeder(),
+                    None,
+                    lines.line(),
+                    progress.place,
+                );
                 return Ok(progress.into_log(None));
             }
             Err(fault) => {
@@ -88,7 +94,7 @@ fn feed_text<'t, O: Opening, R: Wait, G: Watcher>(
                 lines.count(between(trace, counted, broken.place as usize));
                 tell_end(
                     site.gate,
-                    pass.feeder(),
+                    access.feeder(),
                     Some(broken),
                     lines.line(),
                     progress.place,

@@ -10,8 +10,8 @@ returns-in-Refused-clause-done g c =
     let receipt = c.in_ok-receipt.receipt in
     let lines = c.args.log.now.lines.items in
     let noted : c.push_reserved.new.self.items ≡ lines ++ lines_at c.args.place (what_of_reply c.args.register c.args.edit receipt.reply) = rw c.in-Refused.is cc in
-    goes_on plan c.args.pass.now c.submit.new.self lines c.push_reserved.new.self.items c.args.place (entered c.args.register c.args.edit receipt.number receipt.reply)
-    (told_entered plan c.args.pass.now c.submit.new.self c.args.register c.args.edit receipt c.requires.some c.in_ok-receipt.ensures.submitted c.in_ok-receipt.ensures.told
+    goes_on plan c.args.access.now.pass c.submit.new.self.pass lines c.push_reserved.new.self.items c.args.place (entered c.args.register c.args.edit receipt.number receipt.reply)
+    (told_entered plan c.args.access.now.pass c.submit.new.self.pass c.args.register c.args.edit receipt c.requires.some c.in_ok-receipt.ensures.submitted c.in_ok-receipt.ensures.told
     c.what_was_told_stays.ensures.own c.what_was_told_stays.ensures.others)
     noted (λ start doings feeder own. tt)
 
@@ -21,7 +21,7 @@ returns-in_default-clause-done g c =
     let receipt = c.in_ok-receipt.receipt in
     let lines = c.args.log.now.lines.items in
     let noted : lines ≡ lines ++ lines_at c.args.place (what_of_reply c.args.register c.args.edit receipt.reply) = rw (c.in_default.is, append-nil) refl in
-    goes_on plan c.args.pass.now c.submit.new.self lines lines c.args.place (entered c.args.register c.args.edit receipt.number receipt.reply)
-    (told_entered plan c.args.pass.now c.submit.new.self c.args.register c.args.edit receipt c.requires.some c.in_ok-receipt.ensures.submitted c.in_ok-receipt.ensures.told
+    goes_on plan c.args.access.now.pass c.submit.new.self.pass lines lines c.args.place (entered c.args.register c.args.edit receipt.number receipt.reply)
+    (told_entered plan c.args.access.now.pass c.submit.new.self.pass c.args.register c.args.edit receipt c.requires.some c.in_ok-receipt.ensures.submitted c.in_ok-receipt.ensures.told
     c.what_was_told_stays.ensures.own c.what_was_told_stays.ensures.others)
     noted (λ start doings feeder own. tt)

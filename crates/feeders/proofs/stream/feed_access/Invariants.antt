@@ -14,7 +14,7 @@ invariant-loop-count g l = record {
   tower : l.feeder.tower ≡ l.fn.site.tower.now;
   counted : l.feeder.intake.splitter.taken ≡ l.source.given;
   limit : l.source.given ≤ 1073741824;
-  so_far : HasStreamed g.O.Opening.plan (first_start l.fn.pass.feeder) (g.S.Read.remaining l.fn.reader) (g.S.Read.remaining l.source.reader) l.source.past l.feeder l.pass;
+  so_far : HasStreamed g.O.Opening.plan (first_start l.fn.access.pass.feeder) (g.S.Read.remaining l.fn.reader) (g.S.Read.remaining l.source.reader) l.source.past l.feeder l.access.pass;
 }
 
 abbrev pub decreases-loop-count : goal.decreases-loop-count

@@ -12,7 +12,7 @@ invariant-loop-element g l = record {
   within : l.reader.at ≤ length l.trace;
   place : l.progress.place ≤ l.reader.at;
   ahead : IsAhead l.progress;
-  so_far : HasRead (setting_of g.O.Opening.plan l.site.tower.now l.site.field (first_start l.fn.pass.feeder)) l.trace l.reader.at l.progress l.pass;
+  so_far : HasRead (setting_of g.O.Opening.plan l.site.tower.now l.site.field (first_start l.fn.access.pass.feeder)) l.trace l.reader.at l.progress l.access.pass;
 }
 
 abbrev pub decreases-loop-element : goal.decreases-loop-element

@@ -23,8 +23,8 @@ loop-at-init g c =
       taken = omega (arith, ap (λ (s : SplitterModel). s.taken) e.beside.splitter);
       so_far = λ start bytes fed.
           let setting = setting_of g.O.Opening.plan c.args.site.tower.now c.args.site.field start in
-          fed_along setting bytes (bytes ++ take 0 piece) piece (drop 0 piece) new c.settle.new.pass (sym (append-nil bytes)) refl
-          (fed_settled setting bytes piece old new c.args.pass.now c.settle.new.pass fed (e.done start fed.items fed.waiting fed.pending) e.beside place.0 e.settled);
+          fed_along setting bytes (bytes ++ take 0 piece) piece (drop 0 piece) new c.settle.new.access.pass (sym (append-nil bytes)) refl
+          (fed_settled setting bytes piece old new c.args.access.now.pass c.settle.new.access.pass fed (e.done start fed.items fed.waiting fed.pending) e.beside place.0 e.settled);
     }
 
 pub loop-at-preserved : goal.loop-at-preserved
@@ -44,20 +44,20 @@ loop-at-preserved g c =
     subst (λ (by : Option ℕ). IfSome by (λ used. HasUsed part old used new × (new.pending ≡ Nothing) × (0 < length part → old.splitter.taken + old.progress.place < new.splitter.taken + new.progress.place))) c.in-Ok-Some.field-0-is
     c.in-Ok-Some.ensures.used in
     let is : HasUsed left old used new = subst (λ (xs : List ℕ). HasUsed xs old used new) (rest_is at piece) both.0 in
-    let goes : (start : Start) (bytes next : List ℕ) → HasFed (setting_of plan tower field start) bytes (left ++ next) old c.loop-at.pass
-    → GoesTo (setting_of plan tower field start) bytes left next (Some used) new c.take_next.new.pass =
-    subst (λ (by : Option ℕ). (start : Start) (bytes next : List ℕ) → HasFed (setting_of plan tower field start) bytes (left ++ next) old c.loop-at.pass
-    → GoesTo (setting_of plan tower field start) bytes left next by new c.take_next.new.pass) c.in-Ok-Some.field-0-is
-    (subst (λ (xs : List ℕ). (start : Start) (bytes next : List ℕ) → HasFed (setting_of plan tower field start) bytes (xs ++ next) old c.loop-at.pass
-    → GoesTo (setting_of plan tower field start) bytes xs next c.in-Ok-Some.field-0 new c.take_next.new.pass) (rest_is at piece) c.in-Ok-Some.ensures.goes) in
+    let goes : (start : Start) (bytes next : List ℕ) → HasFed (setting_of plan tower field start) bytes (left ++ next) old c.loop-at.access.pass
+    → GoesTo (setting_of plan tower field start) bytes left next (Some used) new c.take_next.new.access.pass =
+    subst (λ (by : Option ℕ). (start : Start) (bytes next : List ℕ) → HasFed (setting_of plan tower field start) bytes (left ++ next) old c.loop-at.access.pass
+    → GoesTo (setting_of plan tower field start) bytes left next by new c.take_next.new.access.pass) c.in-Ok-Some.field-0-is
+    (subst (λ (xs : List ℕ). (start : Start) (bytes next : List ℕ) → HasFed (setting_of plan tower field start) bytes (xs ++ next) old c.loop-at.access.pass
+    → GoesTo (setting_of plan tower field start) bytes xs next c.in-Ok-Some.field-0 new c.take_next.new.access.pass) (rest_is at piece) c.in-Ok-Some.ensures.goes) in
     let rest = used_rest piece at used c.args.self.now old new state.within state.taken is in
     record {
       within = rest.within;
       none = both.1;
       can = rest.can;
       taken = rest.taken;
-      so_far = λ start bytes fed. fed_rest (setting_of plan tower field start) bytes piece at used new c.take_next.new.pass
-          (goes start (bytes ++ take at piece) [] (fed_more (setting_of plan tower field start) (bytes ++ take at piece) left [] old c.loop-at.pass (state.so_far start bytes fed)));
+      so_far = λ start bytes fed. fed_rest (setting_of plan tower field start) bytes piece at used new c.take_next.new.access.pass
+          (goes start (bytes ++ take at piece) [] (fed_more (setting_of plan tower field start) (bytes ++ take at piece) left [] old c.loop-at.access.pass (state.so_far start bytes fed)));
     }
 
 pub returns-in-Err-clause-refused : goal.returns-in-Err-clause-refused
@@ -68,8 +68,8 @@ returns-in-Err-clause-waits g c start bytes fed =
     let setting = setting_of g.O.Opening.plan c.args.site.tower.now c.args.site.field start in
     let piece : List ℕ = c.args.piece.now in
     let e = c.in-Err.ensures in
-    fed_along setting bytes (bytes ++ []) piece piece c.settle.new.self c.settle.new.pass (sym (append-nil bytes)) refl
-    (fed_waits setting bytes piece c.args.self.now c.settle.new.self c.args.pass.now c.settle.new.pass fed (e.waits start fed.items fed.waiting fed.pending) e.beside (omega (arith, e.refused.0, c.requires.can.place)))
+    fed_along setting bytes (bytes ++ []) piece piece c.settle.new.self c.settle.new.access.pass (sym (append-nil bytes)) refl
+    (fed_waits setting bytes piece c.args.self.now c.settle.new.self c.args.access.now.pass c.settle.new.access.pass fed (e.waits start fed.items fed.waiting fed.pending) e.beside (omega (arith, e.refused.0, c.requires.can.place)))
 
 pub returns-in-Ok-None-clause-goes : goal.returns-in-Ok-None-clause-goes
 returns-in-Ok-None-clause-goes g c start bytes fed =
@@ -84,14 +84,14 @@ returns-in-Ok-None-clause-goes g c start bytes fed =
     let new = c.take_next.new.self in
     let state = c.loop-at.invariant in
     let setting = setting_of plan tower field start in
-    let goes : (start : Start) (bytes next : List ℕ) → HasFed (setting_of plan tower field start) bytes (left ++ next) old c.loop-at.pass
-    → GoesTo (setting_of plan tower field start) bytes left next None new c.take_next.new.pass =
-    subst (λ (by : Option ℕ). (start : Start) (bytes next : List ℕ) → HasFed (setting_of plan tower field start) bytes (left ++ next) old c.loop-at.pass
-    → GoesTo (setting_of plan tower field start) bytes left next by new c.take_next.new.pass) c.in-Ok-None.field-0-is
-    (subst (λ (xs : List ℕ). (start : Start) (bytes next : List ℕ) → HasFed (setting_of plan tower field start) bytes (xs ++ next) old c.loop-at.pass
-    → GoesTo (setting_of plan tower field start) bytes xs next c.in-Ok-None.field-0 new c.take_next.new.pass) (rest_is at piece) c.in-Ok-None.ensures.goes) in
-    broke_in setting bytes piece at new c.take_next.new.pass
-    (goes start (bytes ++ take at piece) [] (fed_more setting (bytes ++ take at piece) left [] old c.loop-at.pass (state.so_far start bytes fed)))
+    let goes : (start : Start) (bytes next : List ℕ) → HasFed (setting_of plan tower field start) bytes (left ++ next) old c.loop-at.access.pass
+    → GoesTo (setting_of plan tower field start) bytes left next None new c.take_next.new.access.pass =
+    subst (λ (by : Option ℕ). (start : Start) (bytes next : List ℕ) → HasFed (setting_of plan tower field start) bytes (left ++ next) old c.loop-at.access.pass
+    → GoesTo (setting_of plan tower field start) bytes left next by new c.take_next.new.access.pass) c.in-Ok-None.field-0-is
+    (subst (λ (xs : List ℕ). (start : Start) (bytes next : List ℕ) → HasFed (setting_of plan tower field start) bytes (xs ++ next) old c.loop-at.access.pass
+    → GoesTo (setting_of plan tower field start) bytes xs next c.in-Ok-None.field-0 new c.take_next.new.access.pass) (rest_is at piece) c.in-Ok-None.ensures.goes) in
+    broke_in setting bytes piece at new c.take_next.new.access.pass
+    (goes start (bytes ++ take at piece) [] (fed_more setting (bytes ++ take at piece) left [] old c.loop-at.access.pass (state.so_far start bytes fed)))
 
 pub returns-in-Err-take_next-clause-waits : goal.returns-in-Err-take_next-clause-waits
 returns-in-Err-take_next-clause-waits g c start bytes fed =
@@ -107,12 +107,12 @@ returns-in-Err-take_next-clause-waits g c start bytes fed =
     let state = c.loop-at.invariant in
     let setting = setting_of plan tower field start in
     let used = c.in-Err-take_next.failed.used in
-    let waits : (start : Start) (bytes next : List ℕ) → HasFed (setting_of plan tower field start) bytes (left ++ next) old c.loop-at.pass
-    → HasFed (setting_of plan tower field start) (bytes ++ take used left) (drop used left ++ next) new c.take_next.new.pass =
-    subst (λ (xs : List ℕ). (start : Start) (bytes next : List ℕ) → HasFed (setting_of plan tower field start) bytes (xs ++ next) old c.loop-at.pass
-    → HasFed (setting_of plan tower field start) (bytes ++ take used xs) (drop used xs ++ next) new c.take_next.new.pass) (rest_is at piece) c.in-Err-take_next.ensures.waits in
-    fed_rest setting bytes piece at used new c.take_next.new.pass
-    (waits start (bytes ++ take at piece) [] (fed_more setting (bytes ++ take at piece) left [] old c.loop-at.pass (state.so_far start bytes fed)))
+    let waits : (start : Start) (bytes next : List ℕ) → HasFed (setting_of plan tower field start) bytes (left ++ next) old c.loop-at.access.pass
+    → HasFed (setting_of plan tower field start) (bytes ++ take used left) (drop used left ++ next) new c.take_next.new.access.pass =
+    subst (λ (xs : List ℕ). (start : Start) (bytes next : List ℕ) → HasFed (setting_of plan tower field start) bytes (xs ++ next) old c.loop-at.access.pass
+    → HasFed (setting_of plan tower field start) (bytes ++ take used xs) (drop used xs ++ next) new c.take_next.new.access.pass) (rest_is at piece) c.in-Err-take_next.ensures.waits in
+    fed_rest setting bytes piece at used new c.take_next.new.access.pass
+    (waits start (bytes ++ take at piece) [] (fed_more setting (bytes ++ take at piece) left [] old c.loop-at.access.pass (state.so_far start bytes fed)))
 
 pub returns-in-Err-take_next-clause-fault : goal.returns-in-Err-take_next-clause-fault
 returns-in-Err-take_next-clause-fault g c start bytes fed claims =
@@ -128,5 +128,5 @@ returns-in-Err-take_next-clause-fault g c start bytes fed claims =
     let state = c.loop-at.invariant in
     let setting = setting_of plan tower field start in
     c.in-Err-take_next.ensures.fault start (bytes ++ take at piece) []
-    (subst (λ (xs : List ℕ). HasFed setting (bytes ++ take at piece) (xs ++ []) old c.loop-at.pass) (sym (rest_is at piece))
-    (fed_more setting (bytes ++ take at piece) left [] old c.loop-at.pass (state.so_far start bytes fed))) claims
+    (subst (λ (xs : List ℕ). HasFed setting (bytes ++ take at piece) (xs ++ []) old c.loop-at.access.pass) (sym (rest_is at piece))
+    (fed_more setting (bytes ++ take at piece) left [] old c.loop-at.access.pass (state.so_far start bytes fed))) claims

@@ -12,8 +12,8 @@ invariant-loop-at g l = record {
   none : l.self.pending ≡ Nothing;
   can : CanGoOn (drop l.at l.fn.piece) l.self;
   taken : l.self.splitter.taken ≡ l.fn.self.splitter.taken + l.at;
-  so_far : (start : Start) (bytes : List ℕ) → HasFed (setting_of g.O.Opening.plan l.fn.site.tower.now l.fn.site.field start) bytes l.fn.piece l.fn.self l.fn.pass
-      → HasFed (setting_of g.O.Opening.plan l.fn.site.tower.now l.fn.site.field start) (bytes ++ take l.at l.fn.piece) (drop l.at l.fn.piece) l.self l.pass;
+  so_far : (start : Start) (bytes : List ℕ) → HasFed (setting_of g.O.Opening.plan l.fn.site.tower.now l.fn.site.field start) bytes l.fn.piece l.fn.self l.fn.access.pass
+      → HasFed (setting_of g.O.Opening.plan l.fn.site.tower.now l.fn.site.field start) (bytes ++ take l.at l.fn.piece) (drop l.at l.fn.piece) l.self l.access.pass;
 }
 
 abbrev pub decreases-loop-at : goal.decreases-loop-at
