@@ -1,10 +1,10 @@
 -- Lists that are alike, place by place.
 use Rattle.std.proofs.Common.{◌≡◌, ◌∙◌, ◌<◌, ℕ, suc, List, [], ◌∷◌, Some, None, length, map, refl, ap, arith}
-use Rattle.std.specs.Prelude.{option_map}
+use Rattle.std.specs.Prelude.{IsSomeAnd}
 use Rattle.std.specs.List.{slice_get}
 
 -- a list whose elements are those of another one, place by place
-pub all_alike : {X Y : Type 0} (f : X → Y) (ys : List Y) (xs : List X) → length ys ≡ length xs → ((n : ℕ) → n < length ys → slice_get ys n ≡ option_map f (slice_get xs n)) → ys ≡ map f xs
+pub all_alike : {X Y : Type 0} (f : X → Y) (ys : List Y) (xs : List X) → length ys ≡ length xs → ((n : ℕ) → n < length ys → IsSomeAnd (slice_get xs n) (λ x. slice_get ys n ≡ Some (f x))) → ys ≡ map f xs
 all_alike f [] [] many alike = refl
 all_alike f [] (x ∷ xs) many alike = absurd cc
 all_alike f (y ∷ ys) [] many alike = absurd cc
